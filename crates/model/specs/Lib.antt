@@ -1,0 +1,4 @@
+pub mod Slots
+pub mod Path
+pub mod Sound
+pub mod Finite

@@ -1,0 +1,1 @@
+// The theory of the tables: definitions in specs/, laws in proofs/, no code.
