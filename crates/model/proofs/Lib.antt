@@ -4,3 +4,9 @@ pub mod Slots
 pub mod Sound
 pub mod Change
 pub mod Finite
+pub mod Shows
+pub mod Accepted
+pub mod Agrees
+pub mod Keeps
+pub mod Pairs
+pub mod Union

@@ -75,3 +75,18 @@ unfoldable pub union-prefer-right : {K W : Type 0} → Finite K W → Finite K W
 union-prefer-right f g = record {
     look = λ a. orElse (g .look a) (f .look a);
     dom = select (λ a. not (contains f a)) (g .dom) ++ f .dom }
+
+-- The keys of a list of pairs.
+unfoldable pub firsts : {K W : Type 0} → List (K × W) → List K
+firsts [] = []
+firsts (p ∷ ps) = p .0 ∷ firsts ps
+
+-- The value of the last pair with the key.
+unfoldable pub lastIn : {K W : Type 0} → Keys K → K → List (K × W) → Option W
+lastIn E k [] = none
+lastIn E k (p ∷ ps) = orElse (lastIn E k ps) (cond (E .same k (p .0)) (some (p .1)) none)
+
+-- The map with each pair of a list inserted, in its order.
+unfoldable pub insertAll : {K W : Type 0} → Keys K → Finite K W → List (K × W) → Finite K W
+insertAll E f [] = f
+insertAll E f (p ∷ ps) = insertAll E (insert E f (p .0) (p .1)) ps

@@ -2,3 +2,9 @@ pub mod Slots
 pub mod Path
 pub mod Sound
 pub mod Finite
+pub mod Store
+pub mod Calls
+pub mod Walk
+pub mod Machine
+pub mod Lawful
+pub mod Demand2

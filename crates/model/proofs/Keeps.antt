@@ -1,0 +1,148 @@
+-- On a sound memory each call on one table leaves a sound memory with the map that the call names, or the same memory where it is refused.
+use Prim.Native.Nat.{ℕ, zero, suc, _+_, _-_, _≤_, _<_}
+use mathlib.Core.Bool.{Bool, true, false, cond, not}
+use mathlib.Core.Path.{_≡_, refl, sym, _∙_, ap, subst}
+use mathlib.Core.Option.{Option, none, some}
+use native.Mathlib.Omega.{arith}
+use lib.Dec.{ltb, leb, eqb}
+use Rattle.model.specs.Slots.{live}
+use Rattle.model.specs.Path.{Find, hit, miss, hurt, freeAt}
+use Rattle.model.specs.Finite.{Finite, Proper, empty, insert, remove}
+use Rattle.model.specs.Store.{Store, path, slotAt, used}
+use Rattle.model.specs.Calls.{Or, no, ok, need, pass, give, Seen, found, absent, Spot, occupied, vacant, Handle, on-occupied, on-vacant, seenBy, spotBy, entry, storedBy, after-insert, removedBy, after-remove, acted, capacity, after-make, grip, occupied-get, after-set, occupied-remove, after-drop, goodFor, vacancy, vacant-insert, after-fill, or-insert, after-or-insert, insert-entry, after-insert-entry}
+use Rattle.model.specs.Calls
+use Rattle.model.specs.Machine.{Own, makes, clears, capacities, lens, empties, reserves, gets, contains-keys, removes, entries, inserts, occupied-gets, occupied-removes, occupied-sets, vacant-inserts, or-inserts, insert-entries, Answer, refused, fine, seen, spot, value, report, tells, leaves}
+use Rattle.model.specs.Demand2.{refuses, grows, renews}
+use Rattle.model.specs.Lawful.{Lawful, Healthy, Shows}
+use Rattle.model.proofs.Cases.{by-same}
+use Rattle.model.proofs.Path.{miss-free, hit-at, at-below}
+use Rattle.model.proofs.Sound.{sound-gone}
+use Rattle.model.proofs.Finite.{remove-proper}
+use Rattle.model.proofs.Shows.{home-below, shows-wipe, shows-over, shows-free, shows-fill, PathOf, here, gone, path-of}
+use Rattle.model.proofs.Accepted.{need-ok, pass-ok, seen-found, seen-absent, spot-occupied, spot-vacant, grip-live, good-vacant}
+
+module _ {K W : Type 0} (M : Store K W) where
+  refuses-give : {A : Type 0} (v : W) (x : Or A) (say : A → Answer K W) → ((a : A) → refuses (say a) ≡ false) → refuses (report {K = K} value (give v x)) ≡ refuses (report say x)
+  unfolding give report refuses
+  refuses-give v (no n) say e = refl
+  refuses-give v (ok a) say e = sym (e a)
+
+  -- where a key stands, or would go
+  pub path-live : (m : M .State) (k : K) (n : ℕ) (v : W) → M .home m k < M .size m → path M m k ≡ hit n v → (slotAt M m k n < M .size m) × (M .slots m (slotAt M m k n) ≡ live k v)
+  unfolding path slotAt
+  path-live m k n v h e = let (l, q) = hit-at (M .keys) (M .size m) (M .home m k) (M .slots m) k n v e in (at-below (M .size m) (M .home m k) n h l, q)
+
+  pub path-free : (m : M .State) (k : K) (e f : ℕ) → path M m k ≡ miss e f → f ≡ freeAt (M .size m) (M .home m k) (M .slots m)
+  unfolding path
+  path-free m k e f q = miss-free (M .keys) (M .size m) (M .home m k) (M .slots m) k e f q
+
+  -- maps that look up alike are shown alike
+  pub shows-same : {L : Lawful M} {m : M .State} (f g : Finite K W) → Shows M L m f → ((k : K) → f .look k ≡ g .look k) → Proper (M .keys) g → Shows M L m g
+  shows-same f g s e p = record { healthy = s .healthy; looks = λ k. s .looks k ∙ e k; proper = p }
+
+  module _ (L : Lawful M) (m : M .State) (f : Finite K W) (s : Shows M L m f) where
+    -- an accepted call's map, the old one where it is refused
+    acted-shows : {A : Type 0} (x : Or A) (say : A → Answer K W) (y : M .State) (g : Finite K W) → ((a : A) → refuses (say a) ≡ false) → ((a : A) → x ≡ ok a → Shows M L y g) → Shows M L (acted M m x y) (cond (refuses (report say x)) f g)
+    unfolding acted report refuses
+    acted-shows (no n) say y g e h = s
+    acted-shows (ok a) say y g e h = rw (e a) (h a refl)
+
+    path-gone : (k : K) (e x : ℕ) → path M m k ≡ miss e x → f .look k ≡ none
+    unfolding path
+    path-gone k e x q = sym (s .looks k) ∙ sound-gone (M .keys) (M .size m) (M .home m) (home-below M L m (s .healthy)) (M .slots m) (s .healthy .sound) k e x q
+
+    pub filled-shows : (i e : ℕ) (k : K) (v : W) → spotBy M m k (path M m k) ≡ ok (vacant i e) → Shows M L (M .fill m i k v) (insert (M .keys) f k v)
+    filled-shows i e k v q =
+        let (x, p, r, l, u) = spot-vacant M m k i e q in
+        let y : x ≡ freeAt (M .size m) (M .home m k) (M .slots m) = path-free m k e x p in
+        let z : i ≡ slotAt M m k (freeAt (M .size m) (M .home m k) (M .slots m)) = r ∙ ap (λ n. slotAt M m k n) y in
+        rw z (shows-fill M L m f s k v (path-gone k e x p) (omega arith) (omega (arith, L .within m (s .healthy .sized) (s .healthy .good))))
+
+    pub insert-shows : (k : K) (v : W) → Shows M L (after-insert M m k v) (cond (refuses (report {K = K} spot (entry M m k))) f (insert (M .keys) f k v))
+    unfolding after-insert report refuses storedBy entry
+    insert-shows k v = go (entry M m k) refl
+      where
+        spotted : (x : Spot W) → entry M m k ≡ ok x → spotBy M m k (path M m k) ≡ ok x
+        spotted x e =
+            need-ok (not (M .harmed m)) 5 (spotBy M m k (path M m k)) x
+            (pass-ok (M .kept k) (need (not (M .harmed m)) 5 (spotBy M m k (path M m k))) x
+            (need-ok (M .sized m) 1 (pass (M .kept k) (need (not (M .harmed m)) 5 (spotBy M m k (path M m k)))) x e .1) .1) .1
+        go : (r : Or (Spot W)) → entry M m k ≡ r → Shows M L (storedBy M m k v r) (cond (refuses (report {K = K} spot r)) f (insert (M .keys) f k v))
+        go (no n) e = s
+        go (ok (occupied i w x)) e =
+            let (n, p, q, t) = spot-occupied M m k w i x (spotted (occupied i w x) e) in
+            let (l, c) = path-live m k n w (home-below M L m (s .healthy) k) p in
+            rw q (shows-over M L m f s (slotAt M m k n) k v w l c)
+        go (ok (vacant i x)) e = filled-shows i x k v (spotted (vacant i x) e)
+
+    pub remove-shows : (k : K) → Shows M L (after-remove M m k) (cond (refuses (report {K = K} seen (Calls.remove M m k))) f (remove (M .keys) f k))
+    unfolding after-remove report refuses removedBy Calls.remove remove
+    remove-shows k = go (Calls.remove M m k) refl
+      where
+        spotted : (x : Seen W) → Calls.remove M m k ≡ ok x → seenBy M m k (path M m k) ≡ ok x
+        spotted x e =
+            need-ok (not (M .harmed m)) 5 (seenBy M m k (path M m k)) x
+            (pass-ok (M .asked k) (need (not (M .harmed m)) 5 (seenBy M m k (path M m k))) x
+            (need-ok (M .sized m) 1 (pass (M .asked k) (need (not (M .harmed m)) 5 (seenBy M m k (path M m k)))) x e .1) .1) .1
+        go : (r : Or (Seen W)) → Calls.remove M m k ≡ r → Shows M L (removedBy M m r) (cond (refuses (report {K = K} seen r)) f (remove (M .keys) f k))
+        go (no n) e = s
+        go (ok (found w i x)) e =
+            let (n, p, q, t) = seen-found M m k w i x (spotted (found w i x) e) in
+            let (l, c) = path-live m k n w (home-below M L m (s .healthy) k) p in
+            rw q (shows-free M L m f s (slotAt M m k n) k w l c)
+        go (ok (absent x)) e =
+            let (y, p) = seen-absent M m k x (spotted (absent x) e) in
+            shows-same f (remove (M .keys) f k) s (λ a. by-same (M .keys) a k (λ q t. rw (t, q) (path-gone k x y p)) (λ t. rw t)) (remove-proper (M .keys) f k (s .proper))
+
+    pub set-shows : (i : ℕ) (k : K) (v w : W) → occupied-get M m i k ≡ ok w → Shows M L (M .over m i v) (insert (M .keys) f k v)
+    unfolding occupied-get
+    set-shows i k v w e =
+        let (l, c) = grip-live M m k i w (pass-ok (M .asked k) (grip M m i k) w (need-ok (M .sized m) 1 (pass (M .asked k) (grip M m i k)) w e .1) .1) in
+        shows-over M L m f s i k v w l c
+
+    pub drop-shows : (i : ℕ) (k : K) (w : W) → occupied-remove M m i k ≡ ok w → Shows M L (M .free m i) (remove (M .keys) f k)
+    unfolding occupied-remove
+    drop-shows i k w e =
+        let (l, c) = grip-live M m k i w (need-ok (not (M .harmed m)) 5 (grip M m i k) w
+            (pass-ok (M .asked k) (need (not (M .harmed m)) 5 (grip M m i k)) w
+            (need-ok (M .sized m) 1 (pass (M .asked k) (need (not (M .harmed m)) 5 (grip M m i k))) w e .1) .1) .1) in
+        shows-free M L m f s i k w l c
+
+    pub vacancy-shows : (i : ℕ) (k : K) (v : W) (u : Unit {0}) → vacancy M m i k ≡ ok u → Shows M L (M .fill m i k v) (insert (M .keys) f k v)
+    unfolding vacancy
+    vacancy-shows i k v u e =
+        let (x, q) = good-vacant M m k i u (need-ok (not (M .harmed m)) 5 (goodFor M i (spotBy M m k (path M m k))) u
+            (pass-ok (M .kept k) (need (not (M .harmed m)) 5 (goodFor M i (spotBy M m k (path M m k)))) u
+            (need-ok (M .sized m) 1 (pass (M .kept k) (need (not (M .harmed m)) 5 (goodFor M i (spotBy M m k (path M m k))))) u e .1) .1) .1) in
+        filled-shows i x k v q
+
+    fill-shows : (i : ℕ) (k : K) (v : W) → Shows M L (after-fill M m i k v) (cond (refuses (report {K = K} value (vacant-insert M m i k v))) f (insert (M .keys) f k v))
+    unfolding after-fill vacant-insert refuses
+    fill-shows i k v = rw (refuses-give v (vacancy M m i k) (λ u. fine) (λ a. refl)) (acted-shows (vacancy M m i k) (λ u. fine) (M .fill m i k v) (insert (M .keys) f k v) (λ a. refl) (λ u e. vacancy-shows i k v u e))
+
+    kept-shows : (b : Bool) → Shows M L m (cond b f f)
+    kept-shows true = s
+    kept-shows false = s
+
+    -- every call on one table leaves the map that it names, unless refused
+    pub own-shows : (c : Own K W) → Shows M L (leaves M m c) (cond (refuses (tells M m c)) f (grows M c f))
+    unfolding leaves tells grows refuses after-make after-set after-drop or-insert after-or-insert insert-entry after-insert-entry
+    own-shows makes = acted-shows (capacity M m) (λ n. fine) (M .wipe m) empty (λ a. refl) (λ a e. shows-wipe M L m (s .healthy .sized))
+    own-shows clears = acted-shows (capacity M m) (λ n. fine) (M .wipe m) empty (λ a. refl) (λ a e. shows-wipe M L m (s .healthy .sized))
+    own-shows capacities = kept-shows _
+    own-shows lens = kept-shows _
+    own-shows empties = kept-shows _
+    own-shows (reserves n) = kept-shows _
+    own-shows (gets k) = kept-shows _
+    own-shows (contains-keys k) = kept-shows _
+    own-shows (removes k) = remove-shows k
+    own-shows (entries k) = kept-shows _
+    own-shows (inserts k v) = insert-shows k v
+    own-shows (occupied-gets i k) = kept-shows _
+    own-shows (occupied-removes i k) = acted-shows (occupied-remove M m i k) value (M .free m i) (remove (M .keys) f k) (λ a. refl) (λ a e. drop-shows i k a e)
+    own-shows (occupied-sets i k v) = acted-shows (occupied-get M m i k) value (M .over m i v) (insert (M .keys) f k v) (λ a. refl) (λ a e. set-shows i k v a e)
+    own-shows (vacant-inserts i k v) = fill-shows i k v
+    own-shows (or-inserts (on-occupied i) k v) = kept-shows _
+    own-shows (or-inserts (on-vacant i) k v) = fill-shows i k v
+    own-shows (insert-entries (on-occupied i) k v) = rw (refuses-give v (occupied-get M m i k) value (λ a. refl)) (acted-shows (occupied-get M m i k) value (M .over m i v) (insert (M .keys) f k v) (λ a. refl) (λ a e. set-shows i k v a e))
+    own-shows (insert-entries (on-vacant i) k v) = fill-shows i k v

@@ -1,0 +1,104 @@
+-- Union on a sound left: it is accepted as its map says, and then the right's pairs are all inserted.
+use Prim.Native.Nat.{ℕ, zero, suc, _+_, _-_, _≤_, _<_}
+use mathlib.Core.Bool.{Bool, true, false, cond, not}
+use mathlib.Core.List.{List, [], _∷_}
+use mathlib.Core.Path.{_≡_, refl, sym, _∙_, ap, subst, fun-ext}
+use mathlib.Core.Option.{Option, none, some}
+use native.Mathlib.Omega.{arith}
+use borrow.Author.Tests.{lt-ltb, le-leb, lt-leb, leb-true, leb-false}
+use lib.Dec.{ltb, leb}
+use Rattle.model.specs.Slots.{live, put, frees, total, pairs, look}
+use Rattle.model.specs.Path.{Find, hit, miss, hurt, freeAt}
+use Rattle.model.specs.Finite.{Finite, isSome, orElse, contains, Proper, mass, len, insert, union-prefer-right, firsts, lastIn, insertAll}
+use Rattle.model.specs.Store.{Store, path, slotAt, pathLength, live-count, used, hurtful}
+use Rattle.model.specs.Calls.{Or, no, ok, need, ruleBy, rule, storeAll, missed, lacking, needs, ruined, union, acted, after-union}
+use Rattle.model.specs.Machine.{Answer, refused, fine, report}
+use Rattle.model.specs.Demand2.{admit, roomOf, refuses}
+use Rattle.model.specs.Lawful.{Lawful, Healthy, Shows}
+use Rattle.model.proofs.Cases.{by-bool, by-lt}
+use Rattle.model.proofs.Path.{at-below, free-here}
+use Rattle.model.proofs.Finite.{union-proper, union-mass, insert-mass}
+use Rattle.model.proofs.Pairs.{insertAll-look, insertAll-proper, last-look, lacking-less, total-pairs}
+use Rattle.model.proofs.Shows.{home-below, shows-total, shows-over, shows-fill, PathOf, here, gone, path-of, room-free, shows-unhurt, shows-unharmed}
+use Rattle.model.proofs.Accepted.{need-ok}
+use Rattle.model.proofs.Agrees.{live-len, used-mass, len-high, used-high}
+use Rattle.model.proofs.Keeps.{shows-same}
+
+module _ {K W : Type 0} (M : Store K W) (L : Lawful M) where
+  module _ (m : M .State) (f : Finite K W) (s : Shows M L m f) where
+    pub lacking-is : (k : K) → lacking M m k ≡ not (contains f k)
+    unfolding lacking missed contains isSome
+    lacking-is k = go (path-of M L m f s k)
+      where
+        go : PathOf M L m f s k → missed M (path M m k) ≡ not (isSome (f .look k))
+        go (here n v p e l q) = rw (p, e)
+        go (gone p e) = rw (p, e)
+
+    lacking-mass : (g : K → ℕ) → _≡_ {A = K → ℕ} (λ k. cond (lacking M m k) (g k) 0) (λ k. cond (contains f k) 0 (g k))
+    lacking-mass g = fun-ext (λ k. rw (lacking-is k) (by-bool (contains f k) (λ e. rw e) (λ e. rw e)))
+
+    count-below : mass (λ a. 1) (f .dom) + 1 ≤ M .size m → live-count M m < M .size m
+    unfolding len
+    count-below h = omega (arith, live-len M L m f s)
+
+    free-below : (k : K) → freeAt (M .size m) (M .home m k) (M .slots m) < M .size m → slotAt M m k (freeAt (M .size m) (M .home m k) (M .slots m)) < M .size m
+    unfolding slotAt
+    free-below k l = at-below (M .size m) (M .home m k) (freeAt (M .size m) (M .home m k) (M .slots m)) (home-below M L m (s .healthy) k) l
+
+    free-open : (k : K) → freeAt (M .size m) (M .home m k) (M .slots m) < M .size m → frees (M .slots m (slotAt M m k (freeAt (M .size m) (M .home m k) (M .slots m)))) ≡ true
+    unfolding slotAt
+    free-open k l = free-here (M .size m) (M .home m k) (M .slots m) l
+
+    -- the rule inserts the pair, where an absent key has a slot and its bytes
+    rule-shows : (k : K) (v : W) → mass (λ a. 1) (insert (M .keys) f k v .dom) ≤ M .size m → mass (M .weight) (insert (M .keys) f k v .dom) ≤ M .bytes m → Shows M L (rule M m k v) (insert (M .keys) f k v) × (M .size (rule M m k v) ≡ M .size m) × (M .bytes (rule M m k v) ≡ M .bytes m)
+    unfolding rule ruleBy contains isSome
+    rule-shows k v a b = go (path-of M L m f s k)
+      where
+        go : PathOf M L m f s k → Shows M L (ruleBy M m k v (path M m k)) (insert (M .keys) f k v) × (M .size (ruleBy M m k v (path M m k)) ≡ M .size m) × (M .bytes (ruleBy M m k v (path M m k)) ≡ M .bytes m)
+        go (here n w p e l q) =
+            let x = L .over-wrote m (slotAt M m k n) k v w (s .healthy .sized) (s .healthy .good) l q in
+            rw p (shows-over M L m f s (slotAt M m k n) k v w l q, x .size, x .bytes)
+        go (gone p e) =
+            let c : contains f k ≡ false = ap (λ o. isSome o) e in
+            let one : mass (λ a. 1) (f .dom) + 1 ≤ M .size m = omega (arith, insert-mass (M .keys) (λ a. 1) f k v, ap (λ y. cond {A = ℕ} y 0 1) c) in
+            let all : mass (M .weight) (f .dom) + M .weight k ≤ M .bytes m = omega (arith, insert-mass (M .keys) (M .weight) f k v, ap (λ y. cond {A = ℕ} y 0 (M .weight k)) c) in
+            let l : freeAt (M .size m) (M .home m k) (M .slots m) < M .size m = room-free M L m f s k p (count-below one) in
+            let u : used M m + M .weight k ≤ M .bytes m = omega (arith, used-mass M L m f s) in
+            let x = L .fill-wrote m (slotAt M m k (freeAt (M .size m) (M .home m k) (M .slots m))) k v (s .healthy .sized) (s .healthy .good) (free-below k l) (free-open k l) u in
+            rw (p, lt-ltb (freeAt (M .size m) (M .home m k) (M .slots m)) (M .size m) l) (shows-fill M L m f s k v e l u, x .size, x .bytes)
+
+  -- the rule for each pair, where the keys that the map lacks have slots and bytes
+  pub all-shows : (ps : List (K × W)) (m : M .State) (f : Finite K W) → Shows M L m f → mass (λ k. 1) (f .dom) + mass (λ k. cond (contains f k) 0 1) (firsts ps) ≤ M .size m → mass (M .weight) (f .dom) + mass (λ k. cond (contains f k) 0 (M .weight k)) (firsts ps) ≤ M .bytes m → Shows M L (storeAll M m ps) (insertAll (M .keys) f ps)
+  unfolding storeAll insertAll firsts mass
+  all-shows [] m f s a b = s
+  all-shows (p ∷ ps) m f s a b =
+      let one = insert-mass (M .keys) (λ k. 1) f (p .0) (p .1) in
+      let all = insert-mass (M .keys) (M .weight) f (p .0) (p .1) in
+      let (t, x, y) = rule-shows m f s (p .0) (p .1) (omega arith) (omega arith) in
+      all-shows ps (rule M m (p .0) (p .1)) (insert (M .keys) f (p .0) (p .1)) t
+      (omega (arith, lacking-less (M .keys) (λ k. 1) f (p .0) (p .1) (firsts ps)))
+      (omega (arith, lacking-less (M .keys) (M .weight) f (p .0) (p .1) (firsts ps)))
+
+  module _ (l r : M .State) (f : Finite K W) (s : Shows M L l f) where
+    -- what union needs, over the right's pairs
+    pub needs-pairs : (g : K → ℕ) → needs M g l r ≡ mass (λ k. cond (contains f k) 0 (g k)) (firsts (pairs (M .slots r) (M .size r)))
+    unfolding needs
+    needs-pairs g = rw (lacking-mass l f s g) (total-pairs (λ k. cond (contains f k) 0 (g k)) (M .slots r) (M .size r))
+
+    live-length : live-count M l ≡ mass (λ k. 1) (f .dom)
+    unfolding len
+    live-length = live-len M L l f s
+
+    -- an accepted union of a sound left and ANY right: the right's pairs are inserted in slot order
+    pub union-shows : (u : Unit {0}) → union M l r ≡ ok u → Shows M L (storeAll M l (pairs (M .slots r) (M .size r))) (insertAll (M .keys) f (pairs (M .slots r) (M .size r)))
+    unfolding union
+    union-shows u e =
+        let a = need-ok (M .sized l) 1 _ u e .1 in
+        let b = need-ok (M .sized r) 1 _ u a .1 in
+        let c = need-ok (not (ruined M l)) 5 _ u b .1 in
+        let d = need-ok (not (ruined M r)) 5 _ u c .1 in
+        let x = need-ok (leb (needs M (λ k. 1) l r) (M .size l - live-count M l)) 7 _ u d in
+        let y = need-ok (leb (needs M (M .weight) l r) (M .bytes l - used M l)) 8 _ u (x .1) in
+        all-shows (pairs (M .slots r) (M .size r)) l f s
+        (omega (arith, leb-true (needs M (λ k. 1) l r) (M .size l - live-count M l) (x .0), needs-pairs (λ k. 1), live-length, len-high M L l f s))
+        (omega (arith, leb-true (needs M (M .weight) l r) (M .bytes l - used M l) (y .0), needs-pairs (M .weight), used-mass M L l f s, used-high M L l f s))
