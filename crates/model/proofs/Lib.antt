@@ -10,3 +10,5 @@ pub mod Agrees
 pub mod Keeps
 pub mod Pairs
 pub mod Union
+pub mod Walk
+pub mod Demand2

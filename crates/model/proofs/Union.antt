@@ -102,3 +102,36 @@ module _ {K W : Type 0} (M : Store K W) (L : Lawful M) where
         all-shows (pairs (M .slots r) (M .size r)) l f s
         (omega (arith, leb-true (needs M (λ k. 1) l r) (M .size l - live-count M l) (x .0), needs-pairs (λ k. 1), live-length, len-high M L l f s))
         (omega (arith, leb-true (needs M (M .weight) l r) (M .bytes l - used M l) (y .0), needs-pairs (M .weight), used-mass M L l f s, used-high M L l f s))
+
+    -- the map of an accepted union: the right's value, of each key's last live slot, else the left's
+    pub union-look : (u : Unit {0}) → union M l r ≡ ok u → (a : K) → look (M .keys) (M .slots (after-union M l r)) (M .size (after-union M l r)) a ≡ orElse (look (M .keys) (M .slots r) (M .size r) a) (f .look a)
+    unfolding after-union acted
+    union-look u e a = rw e (union-shows u e .looks a ∙ insertAll-look (M .keys) f (pairs (M .slots r) (M .size r)) a ∙ ap (λ o. orElse o (f .look a)) (last-look (M .keys) a (M .slots r) (M .size r)))
+
+    module _ (g : Finite K W) (t : Shows M L r g) where
+      -- a known right: union_prefer_right of the two maps
+      pub union-map : (u : Unit {0}) → union M l r ≡ ok u → Shows M L (after-union M l r) (union-prefer-right f g)
+      unfolding after-union acted union-prefer-right
+      union-map u e = rw e (shows-same M (insertAll (M .keys) f (pairs (M .slots r) (M .size r))) (union-prefer-right f g) (union-shows u e)
+          (λ a. insertAll-look (M .keys) f (pairs (M .slots r) (M .size r)) a ∙ ap (λ o. orElse o (f .look a)) (last-look (M .keys) a (M .slots r) (M .size r) ∙ t .looks a))
+          (union-proper (M .keys) f g (s .proper) (t .proper)))
+
+      needs-mass : (w : K → ℕ) → needs M w l r ≡ mass (λ k. cond (contains f k) 0 (w k)) (g .dom)
+      unfolding needs
+      needs-mass w = rw (lacking-mass l f s w) (shows-total M L r g t (λ k. cond (contains f k) 0 (w k)))
+
+      -- refused exactly when the union would have more keys than slots, or more bytes than the arena
+      pub union-agrees : report {K = K} {W = W} (λ u. fine) (union M l r) ≡ admit M (roomOf M l) (union-prefer-right f g .dom) fine
+      unfolding union report admit need ruined
+      union-agrees =
+          let a = union-mass (M .keys) (λ k. 1) f g in
+          let b = union-mass (M .keys) (M .weight) f g in
+          let one = needs-mass (λ k. 1) in
+          let all = needs-mass (M .weight) in
+          rw (s .healthy .sized, t .healthy .sized, shows-unhurt M L l f s, shows-unharmed M L l f s, shows-unhurt M L r g t, shows-unharmed M L r g t)
+          (by-bool (leb (needs M (λ k. 1) l r) (M .size l - live-count M l))
+          (λ x. rw (x, le-leb (mass (λ k. 1) (union-prefer-right f g .dom)) (M .size l) (omega (arith, leb-true (needs M (λ k. 1) l r) (M .size l - live-count M l) x, live-length, len-high M L l f s)))
+              (by-bool (leb (needs M (M .weight) l r) (M .bytes l - used M l))
+              (λ y. rw (y, le-leb (mass (M .weight) (union-prefer-right f g .dom)) (M .bytes l) (omega (arith, leb-true (needs M (M .weight) l r) (M .bytes l - used M l) y, used-mass M L l f s, used-high M L l f s))))
+              (λ y. rw (y, lt-leb (mass (M .weight) (union-prefer-right f g .dom)) (M .bytes l) (omega (arith, leb-false (needs M (M .weight) l r) (M .bytes l - used M l) y, used-mass M L l f s))))))
+          (λ x. rw (x, lt-leb (mass (λ k. 1) (union-prefer-right f g .dom)) (M .size l) (omega (arith, leb-false (needs M (λ k. 1) l r) (M .size l - live-count M l) x, live-length)))))
