@@ -54,7 +54,7 @@ module _ {K : Type 0} (E : Keys K) where
   mass-select g p (k ∷ ks) = by-bool (p k) (λ e. rw e (omega (arith, mass-select g p ks))) (λ e. rw e (omega (arith, mass-select g p ks)))
 
   module _ {W : Type 0} where
-    some-is : (o : Option W) → isSome o ≡ true → (v : W) × (o ≡ some v)
+    pub some-is : (o : Option W) → isSome o ≡ true → (v : W) × (o ≡ some v)
     unfolding isSome
     some-is none e = let z : _≡_ {A = ℕ} 0 1 = cc in absurd (omega arith)
     some-is (some v) e = (v, refl)

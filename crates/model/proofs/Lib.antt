@@ -12,3 +12,4 @@ pub mod Pairs
 pub mod Union
 pub mod Walk
 pub mod Demand2
+pub mod Demand3

@@ -25,10 +25,13 @@ stops-not E k freed a b c = refl
 stops-not E k bad a b c = absurd (b refl)
 stops-not E k (live x v) a b c = by-bool (E .same k x) (λ e. absurd (c v (ap (λ y. live y v) (sym (E .right k x e))))) (λ e. e)
 
+-- where each live key stands once, its value in the map is that of its slot
+pub once-look : {K W : Type 0} (E : Keys K) (S : ℕ) (t : Table K W) → ((i j : ℕ) (k : K) (v w : W) → i < S → j < S → t i ≡ live k v → t j ≡ live k w → i ≡ j) → (k : K) (i : ℕ) (v : W) → i < S → t i ≡ live k v → look E t S k ≡ some v
+once-look E S t once k i v l e = look-last E k t S i v l e (λ j a b. lacks E k (t j) (λ w q. let z : i ≡ j = once i j k v w l b e q in absurd (omega arith)))
+
 module _ {K W : Type 0} (E : Keys K) (S : ℕ) (home : K → ℕ) (homes : (k : K) → home k < S) (t : Table K W) (s : Sound S home t) where
-  -- the value of a key in the map is that of its one live slot
   pub sound-look : (k : K) (i : ℕ) (v : W) → i < S → t i ≡ live k v → look E t S k ≡ some v
-  sound-look k i v l e = look-last E k t S i v l e (λ j a b. lacks E k (t j) (λ w q. let z : i ≡ j = s .once i j k v w l b e q in absurd (omega arith)))
+  sound-look k i v l e = once-look E S t (s .once) k i v l e
 
   -- a live key is found where it is
   pub sound-hit : (k : K) (i : ℕ) (v : W) → i < S → t i ≡ live k v → find E S (home k) t k ≡ hit (place S (home k) i) v

@@ -8,3 +8,4 @@ pub mod Walk
 pub mod Machine
 pub mod Lawful
 pub mod Demand2
+pub mod Demand3

@@ -1,0 +1,219 @@
+-- Demand 3 over any orderly machine: by one telescoping lemma, how often a staying key was handed out and whether its slot was passed change together.
+use Prim.Native.Nat.{ℕ, zero, suc, _+_, _-_, _≤_, _<_}
+use mathlib.Core.Bool.{Bool, true, false, cond, not, _&&_}
+use mathlib.Core.List.{List, [], _∷_, _++_}
+use mathlib.Core.Path.{_≡_, refl, sym, _∙_, ap, subst}
+use mathlib.Core.Option.{Option, none, some}
+use native.Mathlib.Omega.{arith}
+use borrow.Author.Tests.{lt-ltb, le-ltb, le-leb, ne-eqb, not-true}
+use lib.Dec.{ltb, leb, eqb}
+use Rattle.model.specs.Slots.{Slot, never, freed, bad, live, Table, Keys, look}
+use Rattle.model.specs.Finite.{isSome}
+use Rattle.model.specs.Path.{from}
+use Rattle.model.specs.Calls.{Or, no, ok, need, pass}
+use Rattle.model.specs.Walk.{Paced, pair, nothing, done, halts, halted, reachOf, paceTo, pace, step, movedBy}
+use Rattle.model.specs.Demand3.{Machine, Event, steps, calls, handsOut, unrefused, has, stepped, stateAfter, walkAfter, good, times, stays, Walked, Orderly}
+use Rattle.model.proofs.Cases.{by-bool, by-lt, by-eq, by-same}
+use Rattle.model.proofs.Slots.{look-some}
+use Rattle.model.proofs.Finite.{some-is}
+use Rattle.model.proofs.Sound.{once-look}
+use Rattle.model.proofs.Walk.{Strode, strode-pair, strode-nothing, strode-done, strode, reach-low, reach-high}
+
+both-left : (a b : Bool) → (a && b) ≡ true → a ≡ true
+both-left true b e = refl
+both-left false b e = e
+
+both-right : (a b : Bool) → (a && b) ≡ true → b ≡ true
+both-right true b e = e
+both-right false b e = let z : _≡_ {A = ℕ} 0 1 = cc in absurd (omega arith)
+
+-- 1 where the slot i lies before w
+past : ℕ → ℕ → ℕ
+past i w = cond (ltb i w) 1 0
+
+past-one : (i w : ℕ) → i < w → past i w ≡ 1
+unfolding past
+past-one i w l = rw (lt-ltb i w l)
+
+past-none : (i w : ℕ) → w ≤ i → past i w ≡ 0
+unfolding past
+past-none i w l = rw (le-ltb i w l)
+
+-- a slot on one side of both is passed by both or by none
+past-same : (i w x : ℕ) → (i < w → i < x) → (w ≤ i → x ≤ i) → 0 + past i w ≡ past i x
+past-same i w x a b = by-lt i w (λ l e. omega (arith, past-one i w l, past-one i x (a l))) (λ l e. omega (arith, past-none i w l, past-none i x (b l)))
+
+halts-live : {K W : Type 0} (s : Slot K W) (k : K) (v : W) → s ≡ live k v → halts s ≡ true
+unfolding halts
+halts-live s k v e = rw e
+
+-- a slot that does not halt a step is not live
+not-between : {K W : Type 0} (t : Table K W) (i : ℕ) (k : K) (v : W) → t i ≡ live k v → halts (t i) ≡ false → ⊥
+not-between t i k v e h = let q : true ≡ false = sym (halts-live (t i) k v e) ∙ h in let z : _≡_ {A = ℕ} 0 1 = cc in omega arith
+
+module _ {K W : Type 0} (E : Keys K) (S : ℕ) (t : Table K W) (once : (i j : ℕ) (k : K) (v w : W) → i < S → j < S → t i ≡ live k v → t j ≡ live k w → i ≡ j) where
+  -- one step: the key at slot i is handed out exactly when the step passes i
+  step-past : (bar w b i : ℕ) (k : K) (v : W) → i < S → t i ≡ live k v → handsOut E k (step S t bar w b) + past i w ≡ past i (movedBy w (step S t bar w b))
+  unfolding handsOut movedBy
+  step-past bar w b i k v l e = go (step S t bar w b) refl
+    where
+      told : (a : Paced K W) → Strode S t w b a → handsOut E k (ok a) + past i w ≡ past i (movedBy w (ok a))
+      told a (strode-pair j k′ v′ lo hi u q none-between r) = rw r (by-same E k k′
+          (λ s x. let d : i ≡ j = once i j k v v′ l hi e (q ∙ ap (λ y. live y v′) (sym s)) in
+              rw x (omega (arith, past-none i w (omega arith), past-one i (suc j) (omega arith))))
+          (λ x. rw x (past-same i w (suc j) (λ y. omega arith)
+              (λ y. by-lt i j
+                  (λ z o. absurd (not-between t i k v e (none-between i y z)))
+                  (λ z o. by-eq i j
+                      (λ d p. let m : live k v ≡ live k′ v′ = sym e ∙ ap t d ∙ q in
+                              let c : k ≡ k′ = cc in
+                              let f : true ≡ false = sym (E .self k) ∙ ap (λ a. E .same k a) c ∙ x in
+                              let g : _≡_ {A = ℕ} 0 1 = cc in absurd (omega arith))
+                      (λ d p. omega arith))))))
+      told a (strode-nothing x lo hi u none-between r) = rw r (past-same i w x (λ y. omega arith) (λ y. by-lt i x (λ z o. absurd (not-between t i k v e (none-between i y z))) (λ z o. z)))
+      told a (strode-done q r) = rw (r, q) (omega arith)
+      go : (a : Or (Paced K W)) → step S t bar w b ≡ a → handsOut E k a + past i w ≡ past i (movedBy w a)
+      go (no n) p = omega arith
+      go (ok a) p = told a (strode S t w bar b a p)
+
+module _ {K W : Type 0} (S : ℕ) (t : Table K W) where
+  pub step-high : (bar w b : ℕ) → w ≤ S → movedBy w (step S t bar w b) ≤ S
+  unfolding movedBy
+  step-high bar w b l = go (step S t bar w b) refl
+    where
+      told : (a : Paced K W) → Strode S t w b a → movedBy w (ok a) ≤ S
+      told a (strode-pair j k v lo hi u q c r) = rw r hi
+      told a (strode-nothing x lo hi u c r) = rw r hi
+      told a (strode-done q r) = rw r (omega arith)
+      go : (a : Or (Paced K W)) → step S t bar w b ≡ a → movedBy w a ≤ S
+      go (no n) p = l
+      go (ok a) p = told a (strode S t w bar b a p)
+
+  step-moves : (bar w b r : ℕ) → w ≤ S → S ≤ unrefused (step S t bar w b) + r + w → S ≤ r + movedBy w (step S t bar w b)
+  unfolding movedBy unrefused
+  step-moves bar w b r l h = go (step S t bar w b) refl h
+    where
+      told : (a : Paced K W) → Strode S t w b a → S ≤ 1 + r + w → S ≤ r + movedBy w (ok a)
+      told a (strode-pair j k v lo hi u q c p) h = rw p (omega arith)
+      told a (strode-nothing x lo hi u c p) h = rw p (omega arith)
+      told a (strode-done q p) h = rw p (omega arith)
+      go : (a : Or (Paced K W)) → step S t bar w b ≡ a → S ≤ unrefused a + r + w → S ≤ r + movedBy w a
+      go (no n) p h = omega arith
+      go (ok a) p h = told a (strode S t w bar b a p) h
+
+  step-pair : (bar w b : ℕ) (k : K) (v : W) (y n : ℕ) → step S t bar w b ≡ ok (pair k v y n) → (j : ℕ) × (w ≤ j) × (j < S) × (t j ≡ live k v) × (y ≡ suc j)
+  step-pair bar w b k v y n e = go (strode S t w bar b (pair k v y n) e)
+    where
+      go : Strode S t w b (pair k v y n) → (j : ℕ) × (w ≤ j) × (j < S) × (t j ≡ live k v) × (y ≡ suc j)
+      go (strode-pair j a x lo hi u q c p) = (j, lo, hi, q ∙ ap (λ z. live z x) (cc) ∙ ap (λ z. live k z) (cc), cc)
+      go (strode-nothing x lo hi u c p) = let z : _≡_ {A = ℕ} 0 1 = cc in absurd (omega arith)
+      go (strode-done q p) = let z : _≡_ {A = ℕ} 0 1 = cc in absurd (omega arith)
+
+  halted-unrefused : (w j : ℕ) (s : Slot K W) → (s ≡ bad → ⊥) → unrefused (halted w j s) ≡ 1
+  unfolding halted unrefused
+  halted-unrefused w j never h = refl
+  halted-unrefused w j freed h = refl
+  halted-unrefused w j bad h = absurd (h refl)
+  halted-unrefused w j (live a v) h = refl
+
+  step-going : (w b : ℕ) → ((i : ℕ) → i < S → t i ≡ bad → ⊥) → 0 < b → w ≤ S → unrefused (step S t 0 w b) ≡ 1
+  unfolding step pace paceTo need pass unrefused
+  step-going w b whole l h = rw (ne-eqb b 0 (omega arith), le-leb w S h) (by-bool (eqb w S) (λ e. rw e)
+      (λ e. rw e (by-lt (from (λ i. halts (t i)) (reachOf S w b) w) (w + reachOf S w b)
+          (λ c p. rw p (halted-unrefused w (from (λ i. halts (t i)) (reachOf S w b) w) (t (from (λ i. halts (t i)) (reachOf S w b) w)) (whole (from (λ i. halts (t i)) (reachOf S w b) w) (omega (arith, reach-high S w b)))))
+          (λ c p. rw p))))
+
+module _ {K W : Type 0} (M : Machine K W) (O : Orderly M) where
+  -- a key that stays is in the map now
+  stay-now : (es : List (Event (M .Call))) (x : M .State) (k : K) → stays M k x es ≡ true → (v : W) × (look (M .keys) (M .table x) (M .size) k ≡ some v)
+  unfolding stays has
+  stay-now [] x k s = some-is (M .keys) (look (M .keys) (M .table x) (M .size) k) s
+  stay-now (steps b ∷ es) x k s = some-is (M .keys) (look (M .keys) (M .table x) (M .size) k) (both-left (has M x k) (stays M k x es) s)
+  stay-now (calls c ∷ es) x k s = some-is (M .keys) (look (M .keys) (M .table x) (M .size) k) (both-left (has M x k) (not (M .wipes x c) && stays M k (M .after x c) es) s)
+
+  -- a key that stays, stays in its slot; and it is handed out exactly when the walk passes that slot
+  stay-slot : (es : List (Event (M .Call))) (x : M .State) → O .Fine x → (k : K) (i : ℕ) (v : W) → i < M .size → M .table x i ≡ live k v → stays M k x es ≡ true → (w : W) × (M .table (stateAfter M x es) i ≡ live k w)
+  unfolding stays stateAfter
+  stay-slot [] x f k i v l e s = (v, e)
+  stay-slot (steps b ∷ es) x f k i v l e s = stay-slot es x f k i v l e (both-right (has M x k) (stays M k x es) s)
+  stay-slot (calls c ∷ es) x f k i v l e s =
+      let a = both-right (has M x k) (not (M .wipes x c) && stays M k (M .after x c) es) s in
+      let r = both-right (not (M .wipes x c)) (stays M k (M .after x c) es) a in
+      let (w, p) = stay-now es (M .after x c) k r in
+      stay-slot es (M .after x c) (O .after-fine x c f) k i w l (O .stands x c f (not-true (M .wipes x c) (both-left (not (M .wipes x c)) (stays M k (M .after x c) es) a)) i k v w l e p) r
+
+  stepped-past : (x : M .State) (q : M .Ticket) (w b : ℕ) → O .Fine x → (k : K) (i : ℕ) (v : W) → i < M .size → M .table x i ≡ live k v → handsOut (M .keys) k (stepped M x q w b) + past i w ≡ past i (movedBy w (stepped M x q w b))
+  unfolding stepped
+  stepped-past x q w b f k i v l e = step-past (M .keys) (M .size) (M .table x) (O .once x f) (M .bar x q) w b i k v l e
+
+  times-past : (es : List (Event (M .Call))) (x : M .State) (q : M .Ticket) (w : ℕ) → O .Fine x → (k : K) (i : ℕ) (v : W) → i < M .size → M .table x i ≡ live k v → stays M k x es ≡ true → times M k x q w es + past i w ≡ past i (walkAfter M x q w es)
+  unfolding stays times walkAfter
+  times-past [] x q w f k i v l e s = omega arith
+  times-past (steps b ∷ es) x q w f k i v l e s =
+      let one = stepped-past x q w b f k i v l e in
+      let rest = times-past es x q (movedBy w (stepped M x q w b)) f k i v l e (both-right (has M x k) (stays M k x es) s) in
+      omega (arith, one, rest)
+  times-past (calls c ∷ es) x q w f k i v l e s =
+      let a = both-right (has M x k) (not (M .wipes x c) && stays M k (M .after x c) es) s in
+      let r = both-right (not (M .wipes x c)) (stays M k (M .after x c) es) a in
+      let (u, p) = stay-now es (M .after x c) k r in
+      times-past es (M .after x c) q w (O .after-fine x c f) k i u l (O .stands x c f (not-true (M .wipes x c) (both-left (not (M .wipes x c)) (stays M k (M .after x c) es) a)) i k v u l e p) r
+
+  fine-after : (es : List (Event (M .Call))) (x : M .State) → O .Fine x → O .Fine (stateAfter M x es)
+  unfolding stateAfter
+  fine-after [] x f = f
+  fine-after (steps b ∷ es) x f = fine-after es x f
+  fine-after (calls c ∷ es) x f = fine-after es (M .after x c) (O .after-fine x c f)
+
+  -- a step leaves the walk within the slots, and an unrefused one moves it on
+  stepped-high : (x : M .State) (q : M .Ticket) (w b : ℕ) → w ≤ M .size → movedBy w (stepped M x q w b) ≤ M .size
+  unfolding stepped
+  stepped-high x q w b l = step-high (M .size) (M .table x) (M .bar x q) w b l
+
+  walk-high : (es : List (Event (M .Call))) (x : M .State) (q : M .Ticket) (w : ℕ) → w ≤ M .size → walkAfter M x q w es ≤ M .size
+  unfolding walkAfter
+  walk-high [] x q w l = l
+  walk-high (steps b ∷ es) x q w l = walk-high es x q (movedBy w (stepped M x q w b)) (stepped-high x q w b l)
+  walk-high (calls c ∷ es) x q w l = walk-high es (M .after x c) q w l
+
+  stepped-moves : (x : M .State) (q : M .Ticket) (w b r : ℕ) → w ≤ M .size → M .size ≤ unrefused (stepped M x q w b) + r + w → M .size ≤ r + movedBy w (stepped M x q w b)
+  unfolding stepped
+  stepped-moves x q w b r l h = step-moves (M .size) (M .table x) (M .bar x q) w b r l h
+
+  good-ends : (es : List (Event (M .Call))) (x : M .State) (q : M .Ticket) (w : ℕ) → w ≤ M .size → M .size ≤ good M x q w es + w → walkAfter M x q w es ≡ M .size
+  unfolding walkAfter good
+  good-ends [] x q w l h = omega arith
+  good-ends (steps b ∷ es) x q w l h = good-ends es x q (movedBy w (stepped M x q w b)) (stepped-high x q w b l) (stepped-moves x q w b (good M x q (movedBy w (stepped M x q w b)) es) l h)
+  good-ends (calls c ∷ es) x q w l h = good-ends es (M .after x c) q w l h
+
+  going-on : (x : M .State) (q : M .Ticket) (w b : ℕ) → O .Fine x → 0 < b → w ≤ M .size → M .bar x q ≡ 0 → unrefused (stepped M x q w b) ≡ 1
+  unfolding stepped
+  going-on x q w b f l h e = rw e (step-going (M .size) (M .table x) w b (O .whole x f) l h)
+
+  -- a step that hands out a pair stopped at its live slot
+  pub stepped-pair : (x : M .State) (q : M .Ticket) (w b : ℕ) (k : K) (v : W) (y n : ℕ) → stepped M x q w b ≡ ok (pair k v y n) → (j : ℕ) × (w ≤ j) × (j < M .size) × (M .table x j ≡ live k v) × (y ≡ suc j)
+  unfolding stepped
+  stepped-pair x q w b k v y n e = step-pair (M .size) (M .table x) (M .bar x q) w b k v y n e
+
+  -- demand 3
+  pub demand-3 : (x : M .State) → O .Fine x → Walked M x
+  demand-3 x f = record {
+      ending = λ es h. good-ends es x (M .ticket x) 0 (omega arith) (omega arith);
+      going = λ es b l e. going-on (stateAfter M x es) (M .ticket x) (walkAfter M x (M .ticket x) 0 es) b (fine-after es x f) l (walk-high es x (M .ticket x) 0 (omega arith)) e;
+      staying = λ k es s h.
+          let (v, p) = stay-now es x k s in
+          let (i, l, e) = look-some (M .keys) k (M .table x) (M .size) v p in
+          omega (arith, times-past es x (M .ticket x) 0 f k i v l e s, past-none i 0 (omega arith), past-one i (walkAfter M x (M .ticket x) 0 es) (omega arith));
+      present = λ es b k v y n e.
+          let (j, a, l, q, z) = stepped-pair (stateAfter M x es) (M .ticket x) (walkAfter M x (M .ticket x) 0 es) b k v y n e in
+          once-look (M .keys) (M .size) (M .table (stateAfter M x es)) (O .once (stateAfter M x es) (fine-after es x f)) k j v l q;
+      apart = λ es fs b c k v u y n z i e g. by-bool (stays M k (stateAfter M x es) fs)
+          (λ s.
+              let f′ = fine-after es x f in
+              let (j, a, l, q, d) = stepped-pair (stateAfter M x es) (M .ticket x) (walkAfter M x (M .ticket x) 0 es) b k v y n e in
+              let (j′, a′, l′, q′, d′) = stepped-pair (stateAfter M (stateAfter M x es) fs) (M .ticket x) (walkAfter M (stateAfter M x es) (M .ticket x) y fs) c k u z i g in
+              let (o, p) = stay-slot fs (stateAfter M x es) f′ k j v l q s in
+              let t = times-past fs (stateAfter M x es) (M .ticket x) y f′ k j v l q s in
+              let h : j ≡ j′ = O .once (stateAfter M (stateAfter M x es) fs) (fine-after fs (stateAfter M x es) f′) j j′ k o u l l′ p q′ in
+              absurd (omega (arith, past-one j y (omega arith), past-none j (walkAfter M (stateAfter M x es) (M .ticket x) y fs) (omega arith))))
+          (λ s. s) }
