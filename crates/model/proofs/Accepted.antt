@@ -8,7 +8,7 @@ use lib.Dec.{ltb, leb, eqb}
 use Rattle.model.specs.Slots.{Slot, never, freed, bad, live, Keys}
 use Rattle.model.specs.Path.{Find, hit, miss, hurt}
 use Rattle.model.specs.Store.{Store, path, slotAt, used}
-use Rattle.model.specs.Calls.{Or, no, ok, need, pass, Seen, found, absent, Spot, occupied, vacant, seenBy, spotBy, gripOn, grip, goodFor}
+use Rattle.model.specs.Calls.{Or, no, ok, need, pass, Seen, found, absent, Spot, occupied, vacant, seenBy, spotBy, entry, remove, gripOn, grip, occupied-get, occupied-remove, goodFor, vacancy}
 use Rattle.model.proofs.Cases.{by-bool}
 
 module _ {A : Type 0} where
@@ -23,6 +23,9 @@ module _ {A : Type 0} where
   pass-ok (suc n) a x e = let z : _≡_ {A = ℕ} 0 1 = cc in absurd (omega arith)
 
 module _ {K W : Type 0} (M : Store K W) (m : M .State) (k : K) where
+  storing : {A : Type 0} (n : ℕ) (a : Or A) (x : A) → need (M .sized m) 1 (pass n (need (not (M .harmed m)) 5 a)) ≡ ok x → a ≡ ok x
+  storing n a x e = need-ok (not (M .harmed m)) 5 a x (pass-ok n (need (not (M .harmed m)) 5 a) x (need-ok (M .sized m) 1 (pass n (need (not (M .harmed m)) 5 a)) x e .1) .1) .1
+
   pub seen-found : (v : W) (i e : ℕ) → seenBy M m k (path M m k) ≡ ok (found v i e) → (n : ℕ) × (path M m k ≡ hit n v) × (i ≡ slotAt M m k n) × (e ≡ suc n)
   unfolding seenBy
   seen-found v i e q = go (path M m k) refl
@@ -85,3 +88,24 @@ module _ {K W : Type 0} (M : Store K W) (m : M .State) (k : K) where
       go (no n) p t = let z : _≡_ {A = ℕ} 0 1 = cc in absurd (omega arith)
       go (ok (occupied x w e)) p t = let z : _≡_ {A = ℕ} 0 1 = cc in absurd (omega arith)
       go (ok (vacant x e)) p t = let (b, y) = need-ok (eqb i x) 6 (ok (tt {0})) u t in (e, p ∙ ap (λ z. ok (vacant z e)) (sym (eqb-true i x b)))
+
+  -- an accepted call's tests passed: what is left is the path's or the handle's own answer
+  pub entry-spot : (x : Spot W) → entry M m k ≡ ok x → spotBy M m k (path M m k) ≡ ok x
+  unfolding entry
+  entry-spot x e = storing (M .kept k) (spotBy M m k (path M m k)) x e
+
+  pub remove-seen : (x : Seen W) → remove M m k ≡ ok x → seenBy M m k (path M m k) ≡ ok x
+  unfolding remove
+  remove-seen x e = storing (M .asked k) (seenBy M m k (path M m k)) x e
+
+  pub occupied-grip : (i : ℕ) (x : W) → occupied-get M m i k ≡ ok x → grip M m i k ≡ ok x
+  unfolding occupied-get
+  occupied-grip i x e = pass-ok (M .asked k) (grip M m i k) x (need-ok (M .sized m) 1 (pass (M .asked k) (grip M m i k)) x e .1) .1
+
+  pub removed-grip : (i : ℕ) (x : W) → occupied-remove M m i k ≡ ok x → grip M m i k ≡ ok x
+  unfolding occupied-remove
+  removed-grip i x e = storing (M .asked k) (grip M m i k) x e
+
+  pub vacancy-good : (i : ℕ) (u : Unit {0}) → vacancy M m i k ≡ ok u → goodFor M i (spotBy M m k (path M m k)) ≡ ok u
+  unfolding vacancy
+  vacancy-good i u e = storing (M .kept k) (goodFor M i (spotBy M m k (path M m k))) u e

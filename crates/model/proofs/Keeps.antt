@@ -19,7 +19,7 @@ use Rattle.model.proofs.Path.{miss-free, hit-at, at-below}
 use Rattle.model.proofs.Sound.{sound-gone}
 use Rattle.model.proofs.Finite.{remove-proper}
 use Rattle.model.proofs.Shows.{home-below, shows-wipe, shows-over, shows-free, shows-fill, PathOf, here, gone, path-of}
-use Rattle.model.proofs.Accepted.{need-ok, pass-ok, seen-found, seen-absent, spot-occupied, spot-vacant, grip-live, good-vacant}
+use Rattle.model.proofs.Accepted.{seen-found, seen-absent, spot-occupied, spot-vacant, grip-live, good-vacant, entry-spot, remove-seen, occupied-grip, removed-grip, vacancy-good}
 
 module _ {K W : Type 0} (M : Store K W) where
   refuses-give : {A : Type 0} (v : W) (x : Or A) (say : A → Answer K W) → ((a : A) → refuses (say a) ≡ false) → refuses (report {K = K} value (give v x)) ≡ refuses (report say x)
@@ -62,59 +62,36 @@ module _ {K W : Type 0} (M : Store K W) where
     unfolding after-insert report refuses storedBy entry
     insert-shows k v = go (entry M m k) refl
       where
-        spotted : (x : Spot W) → entry M m k ≡ ok x → spotBy M m k (path M m k) ≡ ok x
-        spotted x e =
-            need-ok (not (M .harmed m)) 5 (spotBy M m k (path M m k)) x
-            (pass-ok (M .kept k) (need (not (M .harmed m)) 5 (spotBy M m k (path M m k))) x
-            (need-ok (M .sized m) 1 (pass (M .kept k) (need (not (M .harmed m)) 5 (spotBy M m k (path M m k)))) x e .1) .1) .1
         go : (r : Or (Spot W)) → entry M m k ≡ r → Shows M L (storedBy M m k v r) (cond (refuses (report {K = K} spot r)) f (insert (M .keys) f k v))
         go (no n) e = s
         go (ok (occupied i w x)) e =
-            let (n, p, q, t) = spot-occupied M m k w i x (spotted (occupied i w x) e) in
+            let (n, p, q, t) = spot-occupied M m k w i x (entry-spot M m k (occupied i w x) e) in
             let (l, c) = path-live m k n w (home-below M L m (s .healthy) k) p in
             rw q (shows-over M L m f s (slotAt M m k n) k v w l c)
-        go (ok (vacant i x)) e = filled-shows i x k v (spotted (vacant i x) e)
+        go (ok (vacant i x)) e = filled-shows i x k v (entry-spot M m k (vacant i x) e)
 
     pub remove-shows : (k : K) → Shows M L (after-remove M m k) (cond (refuses (report {K = K} seen (Calls.remove M m k))) f (remove (M .keys) f k))
     unfolding after-remove report refuses removedBy Calls.remove remove
     remove-shows k = go (Calls.remove M m k) refl
       where
-        spotted : (x : Seen W) → Calls.remove M m k ≡ ok x → seenBy M m k (path M m k) ≡ ok x
-        spotted x e =
-            need-ok (not (M .harmed m)) 5 (seenBy M m k (path M m k)) x
-            (pass-ok (M .asked k) (need (not (M .harmed m)) 5 (seenBy M m k (path M m k))) x
-            (need-ok (M .sized m) 1 (pass (M .asked k) (need (not (M .harmed m)) 5 (seenBy M m k (path M m k)))) x e .1) .1) .1
         go : (r : Or (Seen W)) → Calls.remove M m k ≡ r → Shows M L (removedBy M m r) (cond (refuses (report {K = K} seen r)) f (remove (M .keys) f k))
         go (no n) e = s
         go (ok (found w i x)) e =
-            let (n, p, q, t) = seen-found M m k w i x (spotted (found w i x) e) in
+            let (n, p, q, t) = seen-found M m k w i x (remove-seen M m k (found w i x) e) in
             let (l, c) = path-live m k n w (home-below M L m (s .healthy) k) p in
             rw q (shows-free M L m f s (slotAt M m k n) k w l c)
         go (ok (absent x)) e =
-            let (y, p) = seen-absent M m k x (spotted (absent x) e) in
+            let (y, p) = seen-absent M m k x (remove-seen M m k (absent x) e) in
             shows-same f (remove (M .keys) f k) s (λ a. by-same (M .keys) a k (λ q t. rw (t, q) (path-gone k x y p)) (λ t. rw t)) (remove-proper (M .keys) f k (s .proper))
 
     pub set-shows : (i : ℕ) (k : K) (v w : W) → occupied-get M m i k ≡ ok w → Shows M L (M .over m i v) (insert (M .keys) f k v)
-    unfolding occupied-get
-    set-shows i k v w e =
-        let (l, c) = grip-live M m k i w (pass-ok (M .asked k) (grip M m i k) w (need-ok (M .sized m) 1 (pass (M .asked k) (grip M m i k)) w e .1) .1) in
-        shows-over M L m f s i k v w l c
+    set-shows i k v w e = let (l, c) = grip-live M m k i w (occupied-grip M m k i w e) in shows-over M L m f s i k v w l c
 
     pub drop-shows : (i : ℕ) (k : K) (w : W) → occupied-remove M m i k ≡ ok w → Shows M L (M .free m i) (remove (M .keys) f k)
-    unfolding occupied-remove
-    drop-shows i k w e =
-        let (l, c) = grip-live M m k i w (need-ok (not (M .harmed m)) 5 (grip M m i k) w
-            (pass-ok (M .asked k) (need (not (M .harmed m)) 5 (grip M m i k)) w
-            (need-ok (M .sized m) 1 (pass (M .asked k) (need (not (M .harmed m)) 5 (grip M m i k))) w e .1) .1) .1) in
-        shows-free M L m f s i k w l c
+    drop-shows i k w e = let (l, c) = grip-live M m k i w (removed-grip M m k i w e) in shows-free M L m f s i k w l c
 
     pub vacancy-shows : (i : ℕ) (k : K) (v : W) (u : Unit {0}) → vacancy M m i k ≡ ok u → Shows M L (M .fill m i k v) (insert (M .keys) f k v)
-    unfolding vacancy
-    vacancy-shows i k v u e =
-        let (x, q) = good-vacant M m k i u (need-ok (not (M .harmed m)) 5 (goodFor M i (spotBy M m k (path M m k))) u
-            (pass-ok (M .kept k) (need (not (M .harmed m)) 5 (goodFor M i (spotBy M m k (path M m k)))) u
-            (need-ok (M .sized m) 1 (pass (M .kept k) (need (not (M .harmed m)) 5 (goodFor M i (spotBy M m k (path M m k))))) u e .1) .1) .1) in
-        filled-shows i x k v q
+    vacancy-shows i k v u e = let (x, q) = good-vacant M m k i u (vacancy-good M m k i u e) in filled-shows i x k v q
 
     fill-shows : (i : ℕ) (k : K) (v : W) → Shows M L (after-fill M m i k v) (cond (refuses (report {K = K} value (vacant-insert M m i k v))) f (insert (M .keys) f k v))
     unfolding after-fill vacant-insert refuses

@@ -13,3 +13,4 @@ pub mod Union
 pub mod Walk
 pub mod Demand2
 pub mod Demand3
+pub mod Tables

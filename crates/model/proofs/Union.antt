@@ -49,9 +49,33 @@ module _ {K W : Type 0} (M : Store K W) (L : Lawful M) where
     unfolding slotAt
     free-open k l = free-here (M .size m) (M .home m k) (M .slots m) l
 
-    -- the rule inserts the pair, where an absent key has a slot and its bytes
-    rule-shows : (k : K) (v : W) → mass (λ a. 1) (insert (M .keys) f k v .dom) ≤ M .size m → mass (M .weight) (insert (M .keys) f k v .dom) ≤ M .bytes m → Shows M L (rule M m k v) (insert (M .keys) f k v) × (M .size (rule M m k v) ≡ M .size m) × (M .bytes (rule M m k v) ≡ M .bytes m)
-    unfolding rule ruleBy contains isSome
+    -- an absent key that the counts admit has a free slot on its path, and its bytes
+    gone-room : (k : K) (v : W) → mass (λ a. 1) (insert (M .keys) f k v .dom) ≤ M .size m → mass (M .weight) (insert (M .keys) f k v .dom) ≤ M .bytes m → path M m k ≡ miss (pathLength M m k) (freeAt (M .size m) (M .home m k) (M .slots m)) → f .look k ≡ none → (freeAt (M .size m) (M .home m k) (M .slots m) < M .size m) × (used M m + M .weight k ≤ M .bytes m)
+    unfolding contains isSome
+    gone-room k v a b p e =
+        let c : contains f k ≡ false = ap (λ o. isSome o) e in
+        let one : mass (λ a. 1) (f .dom) + 1 ≤ M .size m = omega (arith, insert-mass (M .keys) (λ a. 1) f k v, ap (λ y. cond {A = ℕ} y 0 1) c) in
+        let all : mass (M .weight) (f .dom) + M .weight k ≤ M .bytes m = omega (arith, insert-mass (M .keys) (M .weight) f k v, ap (λ y. cond {A = ℕ} y 0 (M .weight k)) c) in
+        (room-free M L m f s k p (count-below one), omega (arith, used-mass M L m f s))
+
+    -- what the rule writes, where an absent key has a slot and its bytes
+    pub data Ruled (k : K) (v : W) : Type 0 where
+      ruled-over : (n : ℕ) (w : W) → slotAt M m k n < M .size m → M .slots m (slotAt M m k n) ≡ live k w → ruleBy M m k v (path M m k) ≡ M .over m (slotAt M m k n) v → Ruled k v
+      ruled-fill : (n : ℕ) → slotAt M m k n < M .size m → frees (M .slots m (slotAt M m k n)) ≡ true → used M m + M .weight k ≤ M .bytes m → ruleBy M m k v (path M m k) ≡ M .fill m (slotAt M m k n) k v → Ruled k v
+
+    pub rule-cases : (k : K) (v : W) → mass (λ a. 1) (insert (M .keys) f k v .dom) ≤ M .size m → mass (M .weight) (insert (M .keys) f k v .dom) ≤ M .bytes m → Ruled k v
+    unfolding ruleBy contains isSome
+    rule-cases k v a b = go (path-of M L m f s k)
+      where
+        go : PathOf M L m f s k → Ruled k v
+        go (here n w p e l q) = ruled-over n w l q (rw p)
+        go (gone p e) =
+            let (l, u) = gone-room k v a b p e in
+            ruled-fill (freeAt (M .size m) (M .home m k) (M .slots m)) (free-below k l) (free-open k l) u (rw (p, lt-ltb (freeAt (M .size m) (M .home m k) (M .slots m)) (M .size m) l))
+
+    -- the rule inserts the pair
+    pub rule-shows : (k : K) (v : W) → mass (λ a. 1) (insert (M .keys) f k v .dom) ≤ M .size m → mass (M .weight) (insert (M .keys) f k v .dom) ≤ M .bytes m → Shows M L (rule M m k v) (insert (M .keys) f k v) × (M .size (rule M m k v) ≡ M .size m) × (M .bytes (rule M m k v) ≡ M .bytes m)
+    unfolding rule ruleBy
     rule-shows k v a b = go (path-of M L m f s k)
       where
         go : PathOf M L m f s k → Shows M L (ruleBy M m k v (path M m k)) (insert (M .keys) f k v) × (M .size (ruleBy M m k v (path M m k)) ≡ M .size m) × (M .bytes (ruleBy M m k v (path M m k)) ≡ M .bytes m)
@@ -59,11 +83,7 @@ module _ {K W : Type 0} (M : Store K W) (L : Lawful M) where
             let x = L .over-wrote m (slotAt M m k n) k v w (s .healthy .sized) (s .healthy .good) l q in
             rw p (shows-over M L m f s (slotAt M m k n) k v w l q, x .size, x .bytes)
         go (gone p e) =
-            let c : contains f k ≡ false = ap (λ o. isSome o) e in
-            let one : mass (λ a. 1) (f .dom) + 1 ≤ M .size m = omega (arith, insert-mass (M .keys) (λ a. 1) f k v, ap (λ y. cond {A = ℕ} y 0 1) c) in
-            let all : mass (M .weight) (f .dom) + M .weight k ≤ M .bytes m = omega (arith, insert-mass (M .keys) (M .weight) f k v, ap (λ y. cond {A = ℕ} y 0 (M .weight k)) c) in
-            let l : freeAt (M .size m) (M .home m k) (M .slots m) < M .size m = room-free M L m f s k p (count-below one) in
-            let u : used M m + M .weight k ≤ M .bytes m = omega (arith, used-mass M L m f s) in
+            let (l, u) = gone-room k v a b p e in
             let x = L .fill-wrote m (slotAt M m k (freeAt (M .size m) (M .home m k) (M .slots m))) k v (s .healthy .sized) (s .healthy .good) (free-below k l) (free-open k l) u in
             rw (p, lt-ltb (freeAt (M .size m) (M .home m k) (M .slots m)) (M .size m) l) (shows-fill M L m f s k v e l u, x .size, x .bytes)
 
@@ -89,19 +109,22 @@ module _ {K W : Type 0} (M : Store K W) (L : Lawful M) where
     unfolding len
     live-length = live-len M L l f s
 
-    -- an accepted union of a sound left and ANY right: the right's pairs are inserted in slot order
-    pub union-shows : (u : Unit {0}) → union M l r ≡ ok u → Shows M L (storeAll M l (pairs (M .slots r) (M .size r))) (insertAll (M .keys) f (pairs (M .slots r) (M .size r)))
+    -- an accepted union has room for all of the right's pairs
+    pub union-room : (u : Unit {0}) → union M l r ≡ ok u → (mass (λ k. 1) (f .dom) + mass (λ k. cond (contains f k) 0 1) (firsts (pairs (M .slots r) (M .size r))) ≤ M .size l) × (mass (M .weight) (f .dom) + mass (λ k. cond (contains f k) 0 (M .weight k)) (firsts (pairs (M .slots r) (M .size r))) ≤ M .bytes l)
     unfolding union
-    union-shows u e =
+    union-room u e =
         let a = need-ok (M .sized l) 1 _ u e .1 in
         let b = need-ok (M .sized r) 1 _ u a .1 in
         let c = need-ok (not (ruined M l)) 5 _ u b .1 in
         let d = need-ok (not (ruined M r)) 5 _ u c .1 in
         let x = need-ok (leb (needs M (λ k. 1) l r) (M .size l - live-count M l)) 7 _ u d in
         let y = need-ok (leb (needs M (M .weight) l r) (M .bytes l - used M l)) 8 _ u (x .1) in
-        all-shows (pairs (M .slots r) (M .size r)) l f s
-        (omega (arith, leb-true (needs M (λ k. 1) l r) (M .size l - live-count M l) (x .0), needs-pairs (λ k. 1), live-length, len-high M L l f s))
-        (omega (arith, leb-true (needs M (M .weight) l r) (M .bytes l - used M l) (y .0), needs-pairs (M .weight), used-mass M L l f s, used-high M L l f s))
+        (omega (arith, leb-true (needs M (λ k. 1) l r) (M .size l - live-count M l) (x .0), needs-pairs (λ k. 1), live-length, len-high M L l f s),
+         omega (arith, leb-true (needs M (M .weight) l r) (M .bytes l - used M l) (y .0), needs-pairs (M .weight), used-mass M L l f s, used-high M L l f s))
+
+    -- an accepted union of a sound left and ANY right: the right's pairs are inserted in slot order
+    pub union-shows : (u : Unit {0}) → union M l r ≡ ok u → Shows M L (storeAll M l (pairs (M .slots r) (M .size r))) (insertAll (M .keys) f (pairs (M .slots r) (M .size r)))
+    union-shows u e = let (a, b) = union-room u e in all-shows (pairs (M .slots r) (M .size r)) l f s a b
 
     -- the map of an accepted union: the right's value, of each key's last live slot, else the left's
     pub union-look : (u : Unit {0}) → union M l r ≡ ok u → (a : K) → look (M .keys) (M .slots (after-union M l r)) (M .size (after-union M l r)) a ≡ orElse (look (M .keys) (M .slots r) (M .size r) a) (f .look a)

@@ -4,7 +4,7 @@ use mathlib.Core.Bool.{Bool, true, false, cond, not}
 use mathlib.Core.List.{List, [], _∷_, _++_}
 use mathlib.Core.Option.{Option, none, some}
 use mathlib.Core.Path.{_≡_}
-use Rattle.model.specs.Slots.{Keys}
+use Rattle.model.specs.Slots.{Keys, Table, pairs, look as look-in}
 
 -- A map gives each key a value or none, and lists the keys that have one.
 pub record Finite (K W : Type 0) : Type 0 where
@@ -90,3 +90,7 @@ lastIn E k (p ∷ ps) = orElse (lastIn E k ps) (cond (E .same k (p .0)) (some (p
 unfoldable pub insertAll : {K W : Type 0} → Keys K → Finite K W → List (K × W) → Finite K W
 insertAll E f [] = f
 insertAll E f (p ∷ ps) = insertAll E (insert E f (p .0) (p .1)) ps
+
+-- The finite map of a table of S slots: its map, and its live keys in slot order.
+unfoldable pub finiteOf : {K W : Type 0} → Keys K → Table K W → ℕ → Finite K W
+finiteOf E t S = record { look = λ k. look-in E t S k; dom = firsts (pairs t S) }

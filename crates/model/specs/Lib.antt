@@ -9,3 +9,4 @@ pub mod Machine
 pub mod Lawful
 pub mod Demand2
 pub mod Demand3
+pub mod Tables

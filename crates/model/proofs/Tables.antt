@@ -1,0 +1,217 @@
+-- Demand 3 for the tables of any lawful store: every call keeps them sound, and no call but make, clear and copy moves a key.
+use Prim.Native.Nat.{ℕ, zero, suc, _+_, _-_, _≤_, _<_}
+use mathlib.Core.Bool.{Bool, true, false, cond, not, _&&_}
+use mathlib.Core.List.{List, [], _∷_, _++_}
+use mathlib.Core.Path.{_≡_, refl, sym, _∙_, ap, subst}
+use mathlib.Core.Option.{Option, none, some}
+use native.Mathlib.Omega.{arith}
+use borrow.Author.Tests.{eqb-true}
+use lib.Dec.{ltb, leb, eqb}
+use Rattle.model.specs.Slots.{Slot, never, freed, bad, live, Table, Keys, put, frees, holds, pairOf, pairs, look}
+use Rattle.model.specs.Sound.{Sound}
+use Rattle.model.specs.Finite.{Finite, isSome, contains, mass, insert, member, Once, once-none, once-more, Proper, firsts, lastIn, orElse, finiteOf}
+use Rattle.model.specs.Path.{at, freeAt}
+use Rattle.model.specs.Store.{Store, path, slotAt, used}
+use Rattle.model.specs.Calls.{Or, no, ok, Seen, found, absent, Spot, occupied, vacant, Handle, on-occupied, on-vacant, spotBy, entry, storedBy, after-insert, remove, removedBy, after-remove, acted, ruleBy, rule, storeAll, occupied-get, after-set, occupied-remove, after-drop, vacancy, after-fill, after-or-insert, after-insert-entry}
+use Rattle.model.specs.Machine.{Own, makes, clears, capacities, lens, empties, reserves, gets, contains-keys, removes, entries, inserts, occupied-gets, occupied-removes, occupied-sets, vacant-inserts, or-inserts, insert-entries, leaves}
+use Rattle.model.specs.Demand2.{renews}
+use Rattle.model.specs.Lawful.{Lawful, Healthy, Shows}
+use Rattle.model.proofs.Cases.{by-bool, by-lt, by-eq, by-same}
+use Rattle.model.proofs.Slots.{put-same, put-other, by-put, holds-live, look-gone, look-some}
+use Rattle.model.proofs.Pairs.{last-look, lacking-less}
+use Rattle.model.proofs.Finite.{once-append, some-is, insert-mass}
+use Rattle.model.proofs.Path.{at-below, free-here}
+use Rattle.model.proofs.Change.{removed-look}
+use Rattle.model.proofs.Shows.{home-below}
+use Rattle.model.proofs.Keeps.{path-live, path-free}
+use Rattle.model.proofs.Union.{rule-shows, Ruled, ruled-over, ruled-fill, rule-cases, union-room}
+use Rattle.model.proofs.Accepted.{seen-found, spot-occupied, spot-vacant, grip-live, good-vacant, entry-spot, remove-seen, occupied-grip, removed-grip, vacancy-good}
+
+module _ {K W : Type 0} (E : Keys K) where
+  member-last : (k : K) (ps : List (K × W)) → member E k (firsts ps) ≡ isSome (lastIn E k ps)
+  unfolding member firsts lastIn isSome orElse
+  member-last k [] = refl
+  member-last k (p ∷ ps) = go (E .same k (p .0)) (lastIn E k ps) (member-last k ps)
+    where
+      go : (b : Bool) (o : Option W) → member E k (firsts ps) ≡ isSome o → cond b true (member E k (firsts ps)) ≡ isSome (orElse o (cond b (some (p .1)) none))
+      go true none e = refl
+      go true (some v) e = refl
+      go false none e = e
+      go false (some v) e = e
+
+  firsts-append : (ps qs : List (K × W)) → firsts (ps ++ qs) ≡ firsts ps ++ firsts qs
+  unfolding firsts
+  firsts-append [] qs = refl
+  firsts-append (p ∷ ps) qs = ap (λ x. p .0 ∷ x) (firsts-append ps qs)
+
+  pair-lacks : (k : K) (s : Slot K W) → ((w : W) → s ≡ live k w → ⊥) → member E k (firsts (pairOf s)) ≡ false
+  unfolding member firsts pairOf
+  pair-lacks k never h = refl
+  pair-lacks k freed h = refl
+  pair-lacks k bad h = refl
+  pair-lacks k (live a v) h = by-same E k a (λ q e. absurd (h v (ap (λ x. live x v) (sym q)))) (λ e. rw e)
+
+  pair-once : (s : Slot K W) → Once E (firsts (pairOf s))
+  unfolding firsts pairOf member
+  pair-once never = once-none
+  pair-once freed = once-none
+  pair-once bad = once-none
+  pair-once (live a v) = once-more refl once-none
+
+  -- where each live key stands once, a table's pairs have no key twice
+  pub pairs-once : (S : ℕ) (t : Table K W) → ((i j : ℕ) (k : K) (v w : W) → i < S → j < S → t i ≡ live k v → t j ≡ live k w → i ≡ j) → (n : ℕ) → n ≤ S → Once E (firsts (pairs t n))
+  unfolding pairs firsts
+  pairs-once S t once zero l = once-none
+  pairs-once S t once (suc n) l = rw (firsts-append (pairs t n) (pairOf (t n))) (once-append E (firsts (pairs t n)) (firsts (pairOf (t n))) (pairs-once S t once n (omega arith)) (pair-once (t n))
+      (λ k e. pair-lacks k (t n) (λ w q.
+          let (v, p) = some-is E (look E t n k) (ap isSome (sym (last-look E k t n)) ∙ sym (member-last k (pairs t n)) ∙ e) in
+          let (i, c, r) = look-some E k t n v p in
+          let z : i ≡ n = once i n k v w (omega arith) l r q in absurd (omega arith))))
+
+  -- a sound table's finite map is proper
+  pub finite-proper : (S : ℕ) (t : Table K W) → ((i j : ℕ) (k : K) (v w : W) → i < S → j < S → t i ≡ live k v → t j ≡ live k w → i ≡ j) → Proper E (finiteOf E t S)
+  unfolding finiteOf contains
+  finite-proper S t once = record {
+      listed = λ k. member-last k (pairs t S) ∙ ap (λ o. isSome o) (last-look E k t S);
+      once = pairs-once S t once S (omega arith) }
+
+module _ {K W : Type 0} (M : Store K W) (L : Lawful M) where
+  -- a sound memory shows the finite map of its slots
+  pub healthy-shows : (m : M .State) → Healthy M L m → Shows M L m (finiteOf (M .keys) (M .slots m) (M .size m))
+  unfolding finiteOf
+  healthy-shows m h = record { healthy = h; looks = λ k. refl; proper = finite-proper (M .keys) (M .size m) (M .slots m) (h .sound .once) }
+
+  -- how a call may change a memory: not at all, in one slot, or by a wipe
+  data Changed (m n : M .State) : Type 0 where
+    same : n ≡ m → Changed m n
+    set-value : (i : ℕ) (k : K) (v w : W) → i < M .size m → M .slots m i ≡ live k w → n ≡ M .over m i v → Changed m n
+    took-slot : (i : ℕ) (k : K) (v : W) → i < M .size m → frees (M .slots m i) ≡ true → used M m + M .weight k ≤ M .bytes m → n ≡ M .fill m i k v → Changed m n
+    let-go : (i : ℕ) (k : K) (w : W) → i < M .size m → M .slots m i ≡ live k w → n ≡ M .free m i → Changed m n
+
+  -- no slot of a key that is still there has moved
+  Stood : (m n : M .State) → Type 0
+  Stood m n = (i : ℕ) (k : K) (v w : W) → i < M .size m → M .slots m i ≡ live k v → look (M .keys) (M .slots n) (M .size n) k ≡ some w → (u : W) × (M .slots n i ≡ live k u)
+
+  frees-dead : (s : Slot K W) (k : K) (v : W) → frees s ≡ true → s ≡ live k v → ⊥
+  unfolding frees
+  frees-dead s k v a b = let q : _≡_ {A = Bool} true false = sym a ∙ ap frees b in let z : _≡_ {A = ℕ} 0 1 = cc in omega arith
+
+  -- a value set or a slot taken leaves every live slot its key
+  over-live : (m : M .State) → Healthy M L m → (j : ℕ) (a : K) (x y : W) → j < M .size m → M .slots m j ≡ live a y → (i : ℕ) (k : K) (v : W) → M .slots m i ≡ live k v → (u : W) × (M .slots (M .over m j x) i ≡ live k u)
+  over-live m h j a x y c d i k v p = rw (L .over-wrote m j a x y (h .sized) (h .good) c d .slots) (by-put (M .slots m) j (live a x) i
+      (λ z r. let s : live k v ≡ live a y = sym p ∙ ap (M .slots m) z ∙ d in (x, r ∙ ap (λ b. live b x) (cc)))
+      (λ z r. (v, r ∙ p)))
+
+  fill-live : (m : M .State) → Healthy M L m → (j : ℕ) (a : K) (x : W) → j < M .size m → frees (M .slots m j) ≡ true → used M m + M .weight a ≤ M .bytes m → (i : ℕ) (k : K) (v : W) → M .slots m i ≡ live k v → (u : W) × (M .slots (M .fill m j a x) i ≡ live k u)
+  fill-live m h j a x c d b i k v p = rw (L .fill-wrote m j a x (h .sized) (h .good) c d b .slots) (by-put (M .slots m) j (live a x) i
+      (λ z r. absurd (frees-dead (M .slots m i) k v (rw z d) p))
+      (λ z r. (v, r ∙ p)))
+
+  changed-stood : (m n : M .State) → Healthy M L m → Changed m n → Stood m n × (M .size n ≡ M .size m)
+  unfolding Stood
+  changed-stood m n h (same e) = ((λ i k v w l p q. (v, (rw e p))), rw e)
+  changed-stood m n h (set-value j a x y c d e) = rw e ((λ i k v w l p q. over-live m h j a x y c d i k v p), L .over-wrote m j a x y (h .sized) (h .good) c d .size)
+  changed-stood m n h (took-slot j a x c d u e) = rw e ((λ i k v w l p q. fill-live m h j a x c d u i k v p), L .fill-wrote m j a x (h .sized) (h .good) c d u .size)
+  changed-stood m n h (let-go j a y c d e) =
+      let wr = L .free-wrote m j a y (h .sized) (h .good) c d in
+      rw e ((λ i k v w l p q. rw (wr .slots) (by-put (M .slots m) j freed i
+          (λ z r.
+              let a′ : look (M .keys) (put (M .slots m) j freed) (M .size m) k ≡ some w = rw (wr .slots, wr .size) at q in
+              let b′ : look (M .keys) (put (M .slots m) j freed) (M .size m) k ≡ none = removed-look (M .keys) (M .size m) (M .slots m) (h .sound .once) k j v c (ap (M .slots m) (sym z) ∙ p) k ∙ (rw (M .keys .self k)) in
+              let c′ : _≡_ {A = ℕ} 0 1 = cc in absurd (omega arith))
+          (λ z r. (v, r ∙ p)))), wr .size)
+
+  -- an accepted call on one table that does not make it anew changes at most one slot
+  acted-changed : {A : Type 0} (m : M .State) (a : Or A) (n : M .State) → ((u : A) → a ≡ ok u → Changed m n) → Changed m (acted M m a n)
+  unfolding acted
+  acted-changed m (no r) n h = same refl
+  acted-changed m (ok u) n h = h u refl
+
+  module _ (m : M .State) (h : Healthy M L m) where
+    spot-changed : (k : K) (v : W) (i e : ℕ) → spotBy M m k (path M m k) ≡ ok (vacant i e) → Changed m (M .fill m i k v)
+    unfolding slotAt
+    spot-changed k v i e q =
+        let (f, p, r, l, u) = spot-vacant M m k i e q in
+        let y : f ≡ freeAt (M .size m) (M .home m k) (M .slots m) = path-free M m k e f p in
+        let b = home-below M L m h k in
+        let z : frees (M .slots m (at (M .size m) (M .home m k) f)) ≡ true = rw y (free-here (M .size m) (M .home m k) (M .slots m) (omega arith)) in
+        took-slot i k v (rw r (at-below (M .size m) (M .home m k) f b l)) (rw r z) (omega (arith, L .within m (h .sized) (h .good))) refl
+
+    insert-changed : (k : K) (v : W) → Changed m (after-insert M m k v)
+    unfolding after-insert storedBy
+    insert-changed k v = go (entry M m k) refl
+      where
+        go : (r : Or (Spot W)) → entry M m k ≡ r → Changed m (storedBy M m k v r)
+        go (no n) e = same refl
+        go (ok (occupied i w x)) e =
+            let (n, p, q, t) = spot-occupied M m k w i x (entry-spot M m k (occupied i w x) e) in
+            let (l, c) = path-live M m k n w (home-below M L m h k) p in
+            set-value i k v w (rw q l) (rw q c) refl
+        go (ok (vacant i x)) e = spot-changed k v i x (entry-spot M m k (vacant i x) e)
+
+    remove-changed : (k : K) → Changed m (after-remove M m k)
+    unfolding after-remove removedBy
+    remove-changed k = go (remove M m k) refl
+      where
+        go : (r : Or (Seen W)) → remove M m k ≡ r → Changed m (removedBy M m r)
+        go (no n) e = same refl
+        go (ok (found w i x)) e =
+            let (n, p, q, t) = seen-found M m k w i x (remove-seen M m k (found w i x) e) in
+            let (l, c) = path-live M m k n w (home-below M L m h k) p in
+            let-go i k w (rw q l) (rw q c) refl
+        go (ok (absent x)) e = same refl
+
+    set-changed : (i : ℕ) (k : K) (v : W) → Changed m (after-set M m i k v)
+    unfolding after-set
+    set-changed i k v = acted-changed m (occupied-get M m i k) (M .over m i v) (λ w e. let (l, c) = grip-live M m k i w (occupied-grip M m k i w e) in set-value i k v w l c refl)
+
+    drop-changed : (i : ℕ) (k : K) → Changed m (after-drop M m i k)
+    unfolding after-drop
+    drop-changed i k = acted-changed m (occupied-remove M m i k) (M .free m i) (λ w e. let (l, c) = grip-live M m k i w (removed-grip M m k i w e) in let-go i k w l c refl)
+
+    fill-changed : (i : ℕ) (k : K) (v : W) → Changed m (after-fill M m i k v)
+    unfolding after-fill
+    fill-changed i k v = acted-changed m (vacancy M m i k) (M .fill m i k v) (λ u e. let (x, q) = good-vacant M m k i u (vacancy-good M m k i u e) in spot-changed k v i x q)
+
+    own-changed : (c : Own K W) → renews M c ≡ false → Changed m (leaves M m c)
+    unfolding leaves renews after-or-insert after-insert-entry
+    own-changed makes e = let z : _≡_ {A = ℕ} 0 1 = cc in absurd (omega arith)
+    own-changed clears e = let z : _≡_ {A = ℕ} 0 1 = cc in absurd (omega arith)
+    own-changed capacities e = same refl
+    own-changed lens e = same refl
+    own-changed empties e = same refl
+    own-changed (reserves n) e = same refl
+    own-changed (gets k) e = same refl
+    own-changed (contains-keys k) e = same refl
+    own-changed (removes k) e = remove-changed k
+    own-changed (entries k) e = same refl
+    own-changed (inserts k v) e = insert-changed k v
+    own-changed (occupied-gets s k) e = same refl
+    own-changed (occupied-removes s k) e = drop-changed s k
+    own-changed (occupied-sets s k v) e = set-changed s k v
+    own-changed (vacant-inserts s k v) e = fill-changed s k v
+    own-changed (or-inserts (on-occupied s) k v) e = same refl
+    own-changed (or-inserts (on-vacant s) k v) e = fill-changed s k v
+    own-changed (insert-entries (on-occupied s) k v) e = set-changed s k v
+    own-changed (insert-entries (on-vacant s) k v) e = fill-changed s k v
+
+  rule-live : (m : M .State) (f : Finite K W) (s : Shows M L m f) (a : K) (b : W) → mass (λ k. 1) (insert (M .keys) f a b .dom) ≤ M .size m → mass (M .weight) (insert (M .keys) f a b .dom) ≤ M .bytes m → (i : ℕ) (k : K) (v : W) → M .slots m i ≡ live k v → (u : W) × (M .slots (rule M m a b) i ≡ live k u)
+  unfolding rule
+  rule-live m f s a b x y i k v e = ruled (rule-cases M L m f s a b x y)
+    where
+      ruled : Ruled M L m f s a b → (u : W) × (M .slots (ruleBy M m a b (path M m a)) i ≡ live k u)
+      ruled (ruled-over n w l q r) = rw r (over-live m (s .healthy) (slotAt M m a n) a b w l q i k v e)
+      ruled (ruled-fill n l q u r) = rw r (fill-live m (s .healthy) (slotAt M m a n) a b l q u i k v e)
+
+  -- union's rule, pair by pair, leaves every live slot its key
+  all-live : (ps : List (K × W)) (m : M .State) (f : Finite K W) → Shows M L m f → mass (λ k. 1) (f .dom) + mass (λ k. cond (contains f k) 0 1) (firsts ps) ≤ M .size m → mass (M .weight) (f .dom) + mass (λ k. cond (contains f k) 0 (M .weight k)) (firsts ps) ≤ M .bytes m → (M .size (storeAll M m ps) ≡ M .size m) × ((i : ℕ) (k : K) (v : W) → M .slots m i ≡ live k v → (u : W) × (M .slots (storeAll M m ps) i ≡ live k u))
+  unfolding storeAll firsts mass
+  all-live [] m f s a b = (refl, λ i k v e. (v, e))
+  all-live (p ∷ ps) m f s a b =
+      let one = insert-mass (M .keys) (λ k. 1) f (p .0) (p .1) in
+      let all = insert-mass (M .keys) (M .weight) f (p .0) (p .1) in
+      let (t, x, y) = rule-shows M L m f s (p .0) (p .1) (omega arith) (omega arith) in
+      let (z, r) = all-live ps (rule M m (p .0) (p .1)) (insert (M .keys) f (p .0) (p .1)) t
+          (omega (arith, lacking-less (M .keys) (λ k. 1) f (p .0) (p .1) (firsts ps)))
+          (omega (arith, lacking-less (M .keys) (M .weight) f (p .0) (p .1) (firsts ps))) in
+      (z ∙ x, λ i k v e. let (u, q) = rule-live m f s (p .0) (p .1) (omega arith) (omega arith) i k v e in r i k u q)
