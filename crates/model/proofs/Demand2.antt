@@ -22,7 +22,7 @@ use Rattle.model.proofs.Sound.{sound-look}
 use Rattle.model.proofs.Accepted.{need-ok, pass-ok}
 use Rattle.model.proofs.Shows.{home-below, shows-wipe}
 use Rattle.model.proofs.Agrees.{own-agrees}
-use Rattle.model.proofs.Keeps.{own-shows}
+use Rattle.model.proofs.Keeps.{by-renews, own-shows}
 use Rattle.model.proofs.Union.{union-agrees, union-map}
 use Rattle.model.proofs.Walk.{Strode, strode-pair, strode-nothing, strode-done, strode}
 
@@ -148,24 +148,9 @@ module _ {K W : Type 0} (M : Store K W) (L : Lawful M) where
       (λ u t r. let d : empty ≡ f = cc in subst (λ g. Shows M L (M .wipe m) g) d (shows-wipe M L m (need-ok (M .sized m) 1 (ok (M .size m)) u t .0))) q
 
   own-left : (m : M .State) (o : Option (Finite K W)) → ((g : Finite K W) → o ≡ some g → Shows M L m g) → (c : Own K W) (f : Finite K W) → cond (refuses (tells M m c)) o (cond (renews M c) (some empty) (mapped M (grows M c) o)) ≡ some f → Shows M L (leaves M m c) f
-  unfolding renews tells leaves
-  own-left m o h makes f q = made-left m o h f q
-  own-left m o h clears f q = made-left m o h f q
-  own-left m o h capacities f q = other-left m o h capacities f q
-  own-left m o h lens f q = other-left m o h lens f q
-  own-left m o h empties f q = other-left m o h empties f q
-  own-left m o h (reserves n) f q = other-left m o h (reserves n) f q
-  own-left m o h (gets k) f q = other-left m o h (gets k) f q
-  own-left m o h (contains-keys k) f q = other-left m o h (contains-keys k) f q
-  own-left m o h (removes k) f q = other-left m o h (removes k) f q
-  own-left m o h (entries k) f q = other-left m o h (entries k) f q
-  own-left m o h (inserts k v) f q = other-left m o h (inserts k v) f q
-  own-left m o h (occupied-gets s k) f q = other-left m o h (occupied-gets s k) f q
-  own-left m o h (occupied-removes s k) f q = other-left m o h (occupied-removes s k) f q
-  own-left m o h (occupied-sets s k v) f q = other-left m o h (occupied-sets s k v) f q
-  own-left m o h (vacant-inserts s k v) f q = other-left m o h (vacant-inserts s k v) f q
-  own-left m o h (or-inserts x k v) f q = other-left m o h (or-inserts x k v) f q
-  own-left m o h (insert-entries x k v) f q = other-left m o h (insert-entries x k v) f q
+  own-left m o h c f q = by-renews M m c
+      (λ e. other-left m o h c f (rw e at q))
+      (λ e l t. rw l (made-left m o h f (rw (e, t) at q)))
 
   left-shows : (w : World M) (e : ℕ → Option (Finite K W)) → ((y : ℕ) (f : Finite K W) → e y ≡ some f → Shows M L (w y) f) → (x : ℕ) (c : Call K W) (f : Finite K W) → cond (refuses (answer M w x c)) (e x) (next M e x c) ≡ some f → Shows M L (left M w x c) f
   unfolding answer left next after-copy after-union

@@ -27,6 +27,27 @@ module _ {K W : Type 0} (M : Store K W) where
   refuses-give v (no n) say e = refl
   refuses-give v (ok a) say e = sym (e a)
 
+  -- a call makes the table anew, or it is none of those that do
+  pub by-renews : {A : Type 0} (m : M .State) (c : Own K W) → (renews M c ≡ false → A) → (renews M c ≡ true → leaves M m c ≡ after-make M m → tells M m c ≡ report (λ n. fine) (capacity M m) → A) → A
+  unfolding renews leaves tells
+  by-renews m makes other anew = anew refl refl refl
+  by-renews m clears other anew = anew refl refl refl
+  by-renews m capacities other anew = other refl
+  by-renews m lens other anew = other refl
+  by-renews m empties other anew = other refl
+  by-renews m (reserves n) other anew = other refl
+  by-renews m (gets k) other anew = other refl
+  by-renews m (contains-keys k) other anew = other refl
+  by-renews m (removes k) other anew = other refl
+  by-renews m (entries k) other anew = other refl
+  by-renews m (inserts k v) other anew = other refl
+  by-renews m (occupied-gets s k) other anew = other refl
+  by-renews m (occupied-removes s k) other anew = other refl
+  by-renews m (occupied-sets s k v) other anew = other refl
+  by-renews m (vacant-inserts s k v) other anew = other refl
+  by-renews m (or-inserts h k v) other anew = other refl
+  by-renews m (insert-entries h k v) other anew = other refl
+
   -- where a key stands, or would go
   pub path-live : (m : M .State) (k : K) (n : ℕ) (v : W) → M .home m k < M .size m → path M m k ≡ hit n v → (slotAt M m k n < M .size m) × (M .slots m (slotAt M m k n) ≡ live k v)
   unfolding path slotAt

@@ -5,16 +5,18 @@ use mathlib.Core.List.{List, [], _∷_, _++_}
 use mathlib.Core.Path.{_≡_, refl, sym, _∙_, ap, subst}
 use mathlib.Core.Option.{Option, none, some}
 use native.Mathlib.Omega.{arith}
-use borrow.Author.Tests.{eqb-true}
+use borrow.Author.Tests.{eqb-true, eq-eqb}
 use lib.Dec.{ltb, leb, eqb}
 use Rattle.model.specs.Slots.{Slot, never, freed, bad, live, Table, Keys, put, frees, holds, pairOf, pairs, look}
 use Rattle.model.specs.Sound.{Sound}
 use Rattle.model.specs.Finite.{Finite, isSome, contains, mass, insert, member, Once, once-none, once-more, Proper, firsts, lastIn, orElse, finiteOf}
 use Rattle.model.specs.Path.{at, freeAt}
 use Rattle.model.specs.Store.{Store, path, slotAt, used}
-use Rattle.model.specs.Calls.{Or, no, ok, Seen, found, absent, Spot, occupied, vacant, Handle, on-occupied, on-vacant, spotBy, entry, storedBy, after-insert, remove, removedBy, after-remove, acted, ruleBy, rule, storeAll, occupied-get, after-set, occupied-remove, after-drop, vacancy, after-fill, after-or-insert, after-insert-entry}
-use Rattle.model.specs.Machine.{Own, makes, clears, capacities, lens, empties, reserves, gets, contains-keys, removes, entries, inserts, occupied-gets, occupied-removes, occupied-sets, vacant-inserts, or-inserts, insert-entries, leaves}
-use Rattle.model.specs.Demand2.{renews}
+use Rattle.model.specs.Calls.{Or, no, ok, Seen, found, absent, Spot, occupied, vacant, Handle, on-occupied, on-vacant, spotBy, entry, storedBy, after-insert, need, capacity, after-make, copy, after-copy, union, after-union, remove, removedBy, after-remove, acted, ruleBy, rule, storeAll, occupied-get, after-set, occupied-remove, after-drop, vacancy, after-fill, after-or-insert, after-insert-entry}
+use Rattle.model.specs.Machine.{Own, makes, clears, capacities, lens, empties, reserves, gets, contains-keys, removes, entries, inserts, occupied-gets, occupied-removes, occupied-sets, vacant-inserts, or-inserts, insert-entries, Call, own, copies, unions, steps, World, placed, Answer, fine, report, leaves, answer, left, turned}
+use Rattle.model.specs.Demand2.{renews, refuses}
+use Rattle.model.specs.Demand3.{Walked, Orderly}
+use Rattle.model.specs.Tables.{sweeps, tables, AllSound}
 use Rattle.model.specs.Lawful.{Lawful, Healthy, Shows}
 use Rattle.model.proofs.Cases.{by-bool, by-lt, by-eq, by-same}
 use Rattle.model.proofs.Slots.{put-same, put-other, by-put, holds-live, look-gone, look-some}
@@ -22,10 +24,12 @@ use Rattle.model.proofs.Pairs.{last-look, lacking-less}
 use Rattle.model.proofs.Finite.{once-append, some-is, insert-mass}
 use Rattle.model.proofs.Path.{at-below, free-here}
 use Rattle.model.proofs.Change.{removed-look}
+use Rattle.model.proofs.Sound.{once-look}
 use Rattle.model.proofs.Shows.{home-below}
-use Rattle.model.proofs.Keeps.{path-live, path-free}
-use Rattle.model.proofs.Union.{rule-shows, Ruled, ruled-over, ruled-fill, rule-cases, union-room}
-use Rattle.model.proofs.Accepted.{seen-found, spot-occupied, spot-vacant, grip-live, good-vacant, entry-spot, remove-seen, occupied-grip, removed-grip, vacancy-good}
+use Rattle.model.proofs.Keeps.{by-renews, path-live, path-free, own-shows}
+use Rattle.model.proofs.Demand3.{demand-3}
+use Rattle.model.proofs.Union.{rule-shows, Ruled, ruled-over, ruled-fill, rule-cases, union-room, union-shows}
+use Rattle.model.proofs.Accepted.{need-ok, seen-found, spot-occupied, spot-vacant, grip-live, good-vacant, entry-spot, remove-seen, occupied-grip, removed-grip, vacancy-good}
 
 module _ {K W : Type 0} (E : Keys K) where
   member-last : (k : K) (ps : List (K × W)) → member E k (firsts ps) ≡ isSome (lastIn E k ps)
@@ -89,7 +93,7 @@ module _ {K W : Type 0} (M : Store K W) (L : Lawful M) where
     let-go : (i : ℕ) (k : K) (w : W) → i < M .size m → M .slots m i ≡ live k w → n ≡ M .free m i → Changed m n
 
   -- no slot of a key that is still there has moved
-  Stood : (m n : M .State) → Type 0
+  abbrev Stood : (m n : M .State) → Type 0
   Stood m n = (i : ℕ) (k : K) (v w : W) → i < M .size m → M .slots m i ≡ live k v → look (M .keys) (M .slots n) (M .size n) k ≡ some w → (u : W) × (M .slots n i ≡ live k u)
 
   frees-dead : (s : Slot K W) (k : K) (v : W) → frees s ≡ true → s ≡ live k v → ⊥
@@ -108,7 +112,6 @@ module _ {K W : Type 0} (M : Store K W) (L : Lawful M) where
       (λ z r. (v, r ∙ p)))
 
   changed-stood : (m n : M .State) → Healthy M L m → Changed m n → Stood m n × (M .size n ≡ M .size m)
-  unfolding Stood
   changed-stood m n h (same e) = ((λ i k v w l p q. (v, (rw e p))), rw e)
   changed-stood m n h (set-value j a x y c d e) = rw e ((λ i k v w l p q. over-live m h j a x y c d i k v p), L .over-wrote m j a x y (h .sized) (h .good) c d .size)
   changed-stood m n h (took-slot j a x c d u e) = rw e ((λ i k v w l p q. fill-live m h j a x c d u i k v p), L .fill-wrote m j a x (h .sized) (h .good) c d u .size)
@@ -215,3 +218,105 @@ module _ {K W : Type 0} (M : Store K W) (L : Lawful M) where
           (omega (arith, lacking-less (M .keys) (λ k. 1) f (p .0) (p .1) (firsts ps)))
           (omega (arith, lacking-less (M .keys) (M .weight) f (p .0) (p .1) (firsts ps))) in
       (z ∙ x, λ i k v e. let (u, q) = rule-live m f s (p .0) (p .1) (omega arith) (omega arith) i k v e in r i k u q)
+
+  union-live : (l r : M .State) → Healthy M L l → (u : Unit {0}) → union M l r ≡ ok u → (M .size (storeAll M l (pairs (M .slots r) (M .size r))) ≡ M .size l) × ((i : ℕ) (k : K) (v : W) → M .slots l i ≡ live k v → (w : W) × (M .slots (storeAll M l (pairs (M .slots r) (M .size r))) i ≡ live k w))
+  union-live l r h u e =
+      let (a, b) = union-room M L l r (finiteOf (M .keys) (M .slots l) (M .size l)) (healthy-shows l h) u e in
+      all-live (pairs (M .slots r) (M .size r)) l (finiteOf (M .keys) (M .slots l) (M .size l)) (healthy-shows l h) a b
+
+  acted-healthy : {A : Type 0} (m : M .State) (a : Or A) (n : M .State) → Healthy M L m → ((u : A) → a ≡ ok u → Healthy M L n) → Healthy M L (acted M m a n)
+  unfolding acted
+  acted-healthy m (no r) n h t = h
+  acted-healthy m (ok u) n h t = t u refl
+
+  acted-size : {A : Type 0} (m : M .State) (a : Or A) (n : M .State) → ((u : A) → a ≡ ok u → M .size n ≡ M .size m) → M .size (acted M m a n) ≡ M .size m
+  unfolding acted
+  acted-size m (no r) n t = refl
+  acted-size m (ok u) n t = t u refl
+
+  copy-size : (m n : M .State) (u : Unit {0}) → copy M m n ≡ ok u → M .size n ≡ M .size m
+  unfolding copy
+  copy-size m n u e =
+      let a = need-ok (M .sized m) 1 _ u e .1 in
+      let b = need-ok (M .sized n) 1 _ u a .1 in
+      sym (eqb-true (M .size m) (M .size n) (need-ok (eqb (M .size m) (M .size n)) 1 _ u b .0))
+
+  made-size : (m : M .State) → M .size (after-make M m) ≡ M .size m
+  unfolding after-make capacity
+  made-size m = acted-size m (need (M .sized m) 1 (ok (M .size m))) (M .wipe m) (λ u e. L .wipe-wrote m (need-ok (M .sized m) 1 (ok (M .size m)) u e .0) .size)
+
+  own-size : (m : M .State) → Healthy M L m → (c : Own K W) → M .size (leaves M m c) ≡ M .size m
+  own-size m h c = by-renews M m c (λ e. changed-stood m (leaves M m c) h (own-changed m h c e) .1) (λ e l t. rw l (made-size m))
+
+  -- every call keeps every table sound
+  pub left-healthy : (w : World M) → ((y : ℕ) → Healthy M L (w y)) → (x : ℕ) (c : Call K W) → Healthy M L (left M w x c)
+  unfolding left after-copy after-union
+  left-healthy w h x (own c) = own-shows M L (w x) (finiteOf (M .keys) (M .slots (w x)) (M .size (w x))) (healthy-shows (w x) (h x)) c .healthy
+  left-healthy w h x (copies y) = acted-healthy (w x) (copy M (w x) (w y)) (w y) (h x) (λ u e. h y)
+  left-healthy w h x (unions y) = acted-healthy (w x) (union M (w x) (w y)) (storeAll M (w x) (pairs (M .slots (w y)) (M .size (w y)))) (h x) (λ u e. union-shows M L (w x) (w y) (finiteOf (M .keys) (M .slots (w x)) (M .size (w x))) (healthy-shows (w x) (h x)) u e .healthy)
+  left-healthy w h x (steps a b) = h x
+
+  -- every call keeps a table's number of slots
+  pub left-size : (w : World M) → ((y : ℕ) → Healthy M L (w y)) → (x : ℕ) (c : Call K W) → M .size (left M w x c) ≡ M .size (w x)
+  unfolding left after-copy after-union
+  left-size w h x (own c) = own-size (w x) (h x) c
+  left-size w h x (copies y) = acted-size (w x) (copy M (w x) (w y)) (w y) (λ u e. copy-size (w x) (w y) u e)
+  left-size w h x (unions y) = acted-size (w x) (union M (w x) (w y)) (storeAll M (w x) (pairs (M .slots (w y)) (M .size (w y)))) (λ u e. union-live (w x) (w y) (h x) u e .0)
+  left-size w h x (steps a b) = refl
+
+  -- a call that does not wipe moves no key that is still there
+  stood-same : (m : M .State) → Stood m m
+  stood-same m i k v w l p q = (v, p)
+
+  acted-stood : {A : Type 0} (m : M .State) (a : Or A) (n : M .State) → ((u : A) → a ≡ ok u → Stood m n) → Stood m (acted M m a n)
+  unfolding acted
+  acted-stood m (no r) n t = stood-same m
+  acted-stood m (ok u) n t = t u refl
+
+  -- a refused call leaves the memory
+  refused-stays : {A : Type 0} (m : M .State) (a : Or A) (n : M .State) → not (refuses (report {K = K} {W = W} (λ u. fine) a)) ≡ false → acted M m a n ≡ m
+  unfolding acted report refuses
+  refused-stays m (no r) n e = refl
+  refused-stays m (ok u) n e = let z : _≡_ {A = ℕ} 0 1 = cc in absurd (omega arith)
+
+  left-stood : (w : World M) → ((y : ℕ) → Healthy M L (w y)) → (x : ℕ) (c : Call K W) → (sweeps M c && not (refuses (answer M w x c))) ≡ false → Stood (w x) (left M w x c)
+  unfolding sweeps answer left after-copy after-union after-make
+  left-stood w h x (own c) e = by-renews M (w x) c
+      (λ r. changed-stood (w x) (leaves M (w x) c) (h x) (own-changed (w x) (h x) c r) .0)
+      (λ r l t. rw (l, refused-stays (w x) (capacity M (w x)) (M .wipe (w x)) (rw (r, t) at e)) (stood-same (w x)))
+  left-stood w h x (copies y) e = rw (refused-stays (w x) (copy M (w x) (w y)) (w y) e) (stood-same (w x))
+  left-stood w h x (unions y) e = acted-stood (w x) (union M (w x) (w y)) (storeAll M (w x) (pairs (M .slots (w y)) (M .size (w y)))) (λ u r i k v z l p q. union-live (w x) (w y) (h x) u r .1 i k v p)
+  left-stood w h x (steps a b) e = stood-same (w x)
+
+  -- the value of a live key is the one in the map
+  settled : (m : M .State) → Healthy M L m → (i : ℕ) (k : K) (v u : W) → i < M .size m → M .slots m i ≡ live k v → look (M .keys) (M .slots m) (M .size m) k ≡ some u → M .slots m i ≡ live k u
+  settled m h i k v u l p q =
+      let r = once-look (M .keys) (M .size m) (M .slots m) (h .sound .once) k i v l p in
+      p ∙ ap (λ x. live k x) (cc)
+
+  -- the tables of a lawful store are an orderly machine
+  pub tables-orderly : (x S : ℕ) → Orderly (tables M x S)
+  unfolding turned placed
+  tables-orderly x S = record {
+      Fine = λ w. AllSound M L x S w;
+      whole = λ w f i l e. f .healthy x .sound .whole i (rw (f .sized) l) e;
+      once = λ w f i j k v u a b p q. f .healthy x .sound .once i j k v u (rw (f .sized) a) (rw (f .sized) b) p q;
+      after-fine = λ w c f. record {
+          healthy = λ y. by-eq y (c .0) (λ r t. rw t (left-healthy w (f .healthy) (c .0) (c .1))) (λ r t. rw t (f .healthy y));
+          sized = by-eq x (c .0) (λ r t. rw t (left-size w (f .healthy) (c .0) (c .1) ∙ ap (λ y. M .size (w y)) (sym r) ∙ f .sized)) (λ r t. rw t (f .sized)) };
+      stands = λ w c f e i k v u l p q. by-eq x (c .0)
+          (λ r t.
+              let h : Healthy M L (left M w (c .0) (c .1)) = left-healthy w (f .healthy) (c .0) (c .1) in
+              let z : M .size (left M w (c .0) (c .1)) ≡ S = left-size w (f .healthy) (c .0) (c .1) ∙ ap (λ y. M .size (w y)) (sym r) ∙ f .sized in
+              let e′ : (sweeps M (c .1) && not (refuses (answer M w (c .0) (c .1)))) ≡ false = rw (eq-eqb (c .0) x (sym r)) at e in
+              let q′ : look (M .keys) (M .slots (left M w (c .0) (c .1))) (M .size (left M w (c .0) (c .1))) k ≡ some u = rw z (rw t at q) in
+              let p′ : M .slots (w (c .0)) i ≡ live k v = subst (λ y. M .slots (w y) i ≡ live k v) r p in
+              let l′ : i < M .size (w (c .0)) = rw (sym (left-size w (f .healthy) (c .0) (c .1)), z) l in
+              let (a, b) = left-stood w (f .healthy) (c .0) (c .1) e′ i k v u l′ p′ q′ in
+              rw t (settled (left M w (c .0) (c .1)) h i k a u (rw z l) b q′))
+          (λ r t. rw t (settled (w x) (f .healthy x) i k v u (rw (f .sized) l) p (rw (f .sized) (rw t at q)))) }
+
+  -- demand 3 for a table of any lawful store
+  pub walk-kept : (x S : ℕ) (w : World M) → AllSound M L x S w → Walked (tables M x S) w
+  unfolding tables-orderly
+  walk-kept x S w f = demand-3 (tables M x S) (tables-orderly x S) w f

@@ -18,7 +18,7 @@ module _ {K W : Type 0} (M : Store K W) where
   sweeps (steps a b) = false
 
   -- The walk of the table x, of S slots. In the base a walk carries nothing.
-  unfoldable pub tables : ℕ → ℕ → Machine K W
+  abbrev pub tables : ℕ → ℕ → Machine K W
   tables x S = record {
       State = World M;
       Call = ℕ × Call K W;
