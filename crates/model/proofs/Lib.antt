@@ -14,3 +14,4 @@ pub mod Walk
 pub mod Demand2
 pub mod Demand3
 pub mod Tables
+pub mod Iterated

@@ -10,3 +10,4 @@ pub mod Lawful
 pub mod Demand2
 pub mod Demand3
 pub mod Tables
+pub mod Iterated
