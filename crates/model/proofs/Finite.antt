@@ -117,7 +117,8 @@ module _ {K W : Type 0} (g : K → ℕ) where
   weigh-dead bad h = refl
   weigh-dead (live a v) h = absurd (h a v refl)
 
-  total-dead : (t : Table K W) (n : ℕ) → ((i : ℕ) → i < n → (a : K) (v : W) → t i ≡ live a v → ⊥) → total g t n ≡ 0
+  -- a table with no live slot weighs nothing
+  pub total-dead : (t : Table K W) (n : ℕ) → ((i : ℕ) → i < n → (a : K) (v : W) → t i ≡ live a v → ⊥) → total g t n ≡ 0
   unfolding total
   total-dead t zero h = refl
   total-dead t (suc n) h = omega (arith, total-dead t n (λ i l. h i (omega arith)), weigh-dead (t n) (h n (omega arith)))
