@@ -7,18 +7,18 @@ use lib.Dec.{ltb, eqb}
 use Rattle.model.specs.Slots.{Keys}
 
 -- a test is true or false
-pub by-bool : {A : Type 0} (b : Bool) → (b ≡ true → A) → (b ≡ false → A) → A
+pub by-bool {ℓ} : {A : Type ℓ} (b : Bool) → (b ≡ true → A) → (b ≡ false → A) → A
 by-bool true yes-case no-case = yes-case refl
 by-bool false yes-case no-case = no-case refl
 
 -- a < b or b ≤ a, each with its test
-pub by-lt : {A : Type 0} (a b : ℕ) → (a < b → ltb a b ≡ true → A) → (b ≤ a → ltb a b ≡ false → A) → A
+pub by-lt {ℓ} : {A : Type ℓ} (a b : ℕ) → (a < b → ltb a b ≡ true → A) → (b ≤ a → ltb a b ≡ false → A) → A
 by-lt a b below above = by-bool (ltb a b) (λ e. below (ltb-true a b e) e) (λ e. above (ltb-false a b e) e)
 
 -- a ≡ b or not, each with its test
-pub by-eq : {A : Type 0} (a b : ℕ) → (a ≡ b → eqb a b ≡ true → A) → ((a ≡ b → ⊥) → eqb a b ≡ false → A) → A
+pub by-eq {ℓ} : {A : Type ℓ} (a b : ℕ) → (a ≡ b → eqb a b ≡ true → A) → ((a ≡ b → ⊥) → eqb a b ≡ false → A) → A
 by-eq a b equal apart = by-bool (eqb a b) (λ e. equal (eqb-true a b e) e) (λ e. apart (eqb-false a b e) e)
 
 -- a is the key k or not, each with its test
-pub by-same : {A K : Type 0} (E : Keys K) (a k : K) → (a ≡ k → E .same a k ≡ true → A) → (E .same a k ≡ false → A) → A
+pub by-same {ℓ} : {A : Type ℓ} {K : Type 0} (E : Keys K) (a k : K) → (a ≡ k → E .same a k ≡ true → A) → (E .same a k ≡ false → A) → A
 by-same E a k equal apart = by-bool (E .same a k) (λ e. equal (E .right a k e) e) apart

@@ -48,7 +48,7 @@ unfolding halts
 halts-live s k v e = rw e
 
 -- a slot that does not halt a step is not live
-not-between : {K W : Type 0} (t : Table K W) (i : ℕ) (k : K) (v : W) → t i ≡ live k v → halts (t i) ≡ false → ⊥
+pub not-between : {K W : Type 0} (t : Table K W) (i : ℕ) (k : K) (v : W) → t i ≡ live k v → halts (t i) ≡ false → ⊥
 not-between t i k v e h = let q : true ≡ false = sym (halts-live (t i) k v e) ∙ h in let z : _≡_ {A = ℕ} 0 1 = cc in omega arith
 
 module _ {K W : Type 0} (E : Keys K) (S : ℕ) (t : Table K W) (once : (i j : ℕ) (k : K) (v w : W) → i < S → j < S → t i ≡ live k v → t j ≡ live k w → i ≡ j) where

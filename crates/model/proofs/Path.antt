@@ -190,6 +190,15 @@ module _ {K W : Type 0} (E : Keys K) (S h : ℕ) (t : Table K W) (k : K) where
       let q : stopAt E S h t k ≡ S = stop-unique S (omega arith) b (λ x. let z : ⊥ = omega arith in absurd z) in
       rw (q, le-ltb S S (omega arith))
 
+  -- an examined slot that stops the path is where it ended
+  pub examined-stop : (j : ℕ) → j < examined E S h t k → stops E k (t (at S h j)) ≡ true → (j ≡ stopAt E S h t k) × (stopAt E S h t k < S)
+  unfolding examined
+  examined-stop j l e = by-lt (stopAt E S h t k) S
+      (λ c x. by-lt j (stopAt E S h t k)
+          (λ d y. let z : _≡_ {A = Bool} true false = sym e ∙ stop-before j d in let n : _≡_ {A = ℕ} 0 1 = cc in absurd (omega arith))
+          (λ d y. (omega (arith, rw x at l), c)))
+      (λ c x. let z : _≡_ {A = Bool} true false = sym e ∙ stop-before j (omega (arith, rw x at l)) in let n : _≡_ {A = ℕ} 0 1 = cc in absurd (omega arith))
+
 module _ {K W : Type 0} (S h : ℕ) (t : Table K W) where
   pub free-before : (m : ℕ) → m < freeAt S h t → frees (t (at S h m)) ≡ false
   unfolding freeAt

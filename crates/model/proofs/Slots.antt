@@ -156,3 +156,17 @@ module _ {K W : Type 0} where
   damaged-bad t (suc n) i l e = by-lt i n
       (λ l′ x. by-bool (hurts (t n)) (λ p. rw p) (λ p. rw p (damaged-bad t n i l′ e)))
       (λ l′ x. let q : i ≡ n = omega arith in rw (hurts-bad (t n) (rw q at e)))
+
+  bad-hurts : (s : Slot K W) → hurts s ≡ true → s ≡ bad
+  unfolding hurts
+  bad-hurts never e = let z : _≡_ {A = ℕ} 0 1 = cc in absurd (omega arith)
+  bad-hurts freed e = let z : _≡_ {A = ℕ} 0 1 = cc in absurd (omega arith)
+  bad-hurts bad e = refl
+  bad-hurts (live a v) e = let z : _≡_ {A = ℕ} 0 1 = cc in absurd (omega arith)
+
+  pub damaged-where : (t : Table K W) (n : ℕ) → damaged t n ≡ true → (i : ℕ) × (i < n) × (t i ≡ bad)
+  unfolding damaged
+  damaged-where t zero e = let z : _≡_ {A = ℕ} 0 1 = cc in absurd (omega arith)
+  damaged-where t (suc n) e = by-bool (hurts (t n))
+      (λ p. (n, omega arith, bad-hurts (t n) p))
+      (λ p. let (i, l, q) = damaged-where t n (rw p at e) in (i, omega arith, q))

@@ -12,3 +12,4 @@ pub mod Demand3
 pub mod Tables
 pub mod Iterated
 pub mod Plain
+pub mod Demand1

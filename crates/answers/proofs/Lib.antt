@@ -1,0 +1,2 @@
+-- The laws of the paper's numbers.
+pub mod Told

@@ -1,0 +1,3 @@
+-- The paper's numbers of refusals and answers.
+pub mod Numbers
+pub mod Refusals

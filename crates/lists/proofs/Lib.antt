@@ -1,0 +1,3 @@
+-- The laws on lists that the crates share.
+pub mod Bytes
+pub mod Tests

@@ -1,0 +1,2 @@
+-- The definitions on lists that the crates share.
+pub mod Bytes

@@ -1,0 +1,3 @@
+-- The laws of what the C library hands back.
+pub mod Boundary
+pub mod Settled

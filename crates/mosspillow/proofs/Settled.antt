@@ -1,0 +1,18 @@
+-- Each contract of the C library settles its answer: two results that it allows are equal.
+-- Assumes nothing.
+use mathlib.Core.Path.{_≡_, sym, _∙_}
+use mathlib.Core.List.{List}
+use Prim.Native.Nat.{ℕ}
+use Rattle.answers.specs.Numbers.{homedNumbers}
+use Rattle.digest.specs.Digest.{digestOf}
+use Rattle.digest.specs.Home.{homedOf}
+use Rattle.mosspillow.specs.Returned.{returned}
+
+-- `moss_digest`.
+pub moss-digest-settled : (bytes : List ℕ) (r s : ℕ) → r ≡ digestOf bytes → s ≡ digestOf bytes → r ≡ s
+moss-digest-settled bytes r s p q = p ∙ sym q
+
+-- `moss_home`.
+pub moss-home-settled : (slots : ℕ) (bytes : List ℕ) (r s : ℕ) → r ≡ returned (homedNumbers (homedOf 0 slots bytes))
+    → s ≡ returned (homedNumbers (homedOf 0 slots bytes)) → r ≡ s
+moss-home-settled slots bytes r s p q = p ∙ sym q

@@ -1,0 +1,2 @@
+-- What the C library hands back.
+pub mod Returned
