@@ -73,19 +73,19 @@ module _ {K W : Type 0} (M : Store K W) (L : Lawful M) (m : M .State) (f : Finit
       go (here n v p e l q) = rw (p, e, le-leb (mass (λ k. 1) (f .dom)) (M .size m) len-high, le-leb (mass (M .weight) (f .dom)) (M .bytes m) used-high)
       go (gone p e) = by-lt (freeAt (M .size m) (M .home m k) (M .slots m)) (M .size m)
           (λ l x. let c : 1 + mass (λ k. 1) (f .dom) ≤ M .size m = omega (arith, free-room M L m f s k e l, live-len) in
-              by-bool (leb (M .weight k) (M .bytes m - used M m))
-              (λ y. rw (p, e, x, y, le-leb (1 + mass (λ k. 1) (f .dom)) (M .size m) c, le-leb (M .weight k + mass (M .weight) (f .dom)) (M .bytes m) (omega (arith, leb-true (M .weight k) (M .bytes m - used M m) y, used-mass, used-high))))
-              (λ y. rw (p, e, x, y, le-leb (1 + mass (λ k. 1) (f .dom)) (M .size m) c, lt-leb (M .weight k + mass (M .weight) (f .dom)) (M .bytes m) (omega (arith, leb-false (M .weight k) (M .bytes m - used M m) y, used-mass, used-high)))))
+          by-bool (leb (M .weight k) (M .bytes m - used M m))
+          (λ y. rw (p, e, x, y, le-leb (1 + mass (λ k. 1) (f .dom)) (M .size m) c, le-leb (M .weight k + mass (M .weight) (f .dom)) (M .bytes m) (omega (arith, leb-true (M .weight k) (M .bytes m - used M m) y, used-mass, used-high))))
+          (λ y. rw (p, e, x, y, le-leb (1 + mass (λ k. 1) (f .dom)) (M .size m) c, lt-leb (M .weight k + mass (M .weight) (f .dom)) (M .bytes m) (omega (arith, leb-false (M .weight k) (M .bytes m - used M m) y, used-mass, used-high)))))
           (λ l x. by-lt (live-count M m) (M .size m)
-              (λ c y. let z : ⊥ = omega (arith, room-free M L m f s k p c) in absurd z)
-              (λ c y. rw (p, e, x, lt-leb (1 + mass (λ k. 1) (f .dom)) (M .size m) (omega (arith, live-len)))))
+          (λ c y. let z : ⊥ = omega (arith, room-free M L m f s k p c) in absurd z)
+          (λ c y. rw (p, e, x, lt-leb (1 + mass (λ k. 1) (f .dom)) (M .size m) (omega (arith, live-len)))))
 
   -- a good handle's slot is live with the key
   grips-live : (i : ℕ) (k : K) → grips M m i k ≡ true → (i < M .size m) × (v : W) × (M .slots m i ≡ live k v) × (f .look k ≡ some v)
   unfolding grips
   grips-live i k e = by-lt i (M .size m)
       (λ l x. let (v, q) = holds-value (M .keys) k (M .slots m i) (rw x at e) in
-              (l, v, q, sym (s .looks k) ∙ sound-look (M .keys) (M .size m) (M .home m) (home-below M L m (s .healthy)) (M .slots m) (s .healthy .sound) k i v l q))
+      (l, v, q, sym (s .looks k) ∙ sound-look (M .keys) (M .size m) (M .home m) (home-below M L m (s .healthy)) (M .slots m) (s .healthy .sound) k i v l q))
       (λ l x. let z : _≡_ {A = Bool} false true = rw x at e in let y : _≡_ {A = ℕ} 0 1 = cc in absurd (omega arith))
 
   -- an occupied handle: its value where it is good, 6 where it is not
@@ -110,8 +110,8 @@ module _ {K W : Type 0} (M : Store K W) (L : Lawful M) (m : M .State) (f : Finit
       go (here n w p e l q) = rw p
       go (gone p e) = rw p (by-bool (ltb (freeAt (M .size m) (M .home m k) (M .slots m)) (M .size m))
           (λ x. rw x (by-bool (leb (M .weight k) (M .bytes m - used M m))
-              (λ y. rw y (by-bool (eqb i (slotAt M m k (freeAt (M .size m) (M .home m k) (M .slots m)))) (λ z. rw z) (λ z. rw z)))
-              (λ y. rw y)))
+          (λ y. rw y (by-bool (eqb i (slotAt M m k (freeAt (M .size m) (M .home m k) (M .slots m)))) (λ z. rw z) (λ z. rw z)))
+          (λ y. rw y)))
           (λ x. rw x))
 
   -- the tests before the path, in the order of the call, around an answer that agrees

@@ -38,8 +38,8 @@ module _ {K W : Type 0} (E : Keys K) where
   unfolding holds
   removed-look S t once k i w l e a = by-same E a k
       (λ q p. rw (p, q) (look-none E k (put t i freed) S (λ j b. by-put t i freed j
-          (λ x r. rw r)
-          (λ x r. rw r (lacks E k (t j) (λ y c. x (once j i k y w b l c e)))))))
+      (λ x r. rw r)
+      (λ x r. rw r (lacks E k (t j) (λ y c. x (once j i k y w b l c e)))))))
       (λ p. rw p (look-other a t i freed S refl (live-lacks k a (t i) w e p)))
 
   module _ (S : ℕ) (home : K → ℕ) (homes : (k : K) → home k < S) (t : Table K W) (o : Sound S home t) (k : K) where

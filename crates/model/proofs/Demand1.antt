@@ -89,6 +89,7 @@ module _ {K W : Type 0} (M : Store K W) (m : M .State) (k : K) where
     where
       ends-with : {s : Slot K W} {n : ℕ} → n ≡ last → M .slots m (at (M .size m) (M .home m k) n) ≡ s → M .slots m (at (M .size m) (M .home m k) last) ≡ s
       ends-with {s} x p = subst (λ j. M .slots m (at (M .size m) (M .home m k) j) ≡ s) x p
+
       go : (r : Find W) → find (M .keys) (M .size m) (M .home m k) (M .slots m) k ≡ r → Ended (M .keys) (M .size m) (M .home m k) (M .slots m) k r → Told
       go r q (ended-hit n v x l p) = told-hit n v q
           (λ b. let c = bad-last b .0 in let d = ends-with x p in let z : _≡_ {A = ℕ} 0 1 = cc in omega arith)
@@ -142,9 +143,9 @@ module _ {K W : Type 0} (S : ℕ) (t : Table K W) (a b : ℕ) where
   first-pace = by-eq a S
       (λ q x. rw x (on (λ d. omega (arith, d .1, d .2)) none-applies))
       (λ q x. rw x (by-lt (from (λ i. halts (t i)) (reachOf S a b) a) (a + reachOf S a b)
-          (λ l y. rw y (first-halted (from (λ i. halts (t i)) (reachOf S a b) a) (t (from (λ i. halts (t i)) (reachOf S a b) a)) refl
-              (from-here (λ i. halts (t i)) (reachOf S a b) a l) (from-low (λ i. halts (t i)) (reachOf S a b) a) l (λ i u v. from-before (λ i. halts (t i)) (reachOf S a b) a i u v) (λ d. first-halt d .0)))
-          (λ l y. rw y (on (λ d. omega (arith, first-halt d .1)) none-applies))))
+      (λ l y. rw y (first-halted (from (λ i. halts (t i)) (reachOf S a b) a) (t (from (λ i. halts (t i)) (reachOf S a b) a)) refl
+      (from-here (λ i. halts (t i)) (reachOf S a b) a l) (from-low (λ i. halts (t i)) (reachOf S a b) a) l (λ i u v. from-before (λ i. halts (t i)) (reachOf S a b) a i u v) (λ d. first-halt d .0)))
+      (λ l y. rw y (on (λ d. omega (arith, first-halt d .1)) none-applies))))
 
   first-step : First (row 3 (b ≡ 0) ∷ row 4 (S < a) ∷ row 5 Passed ∷ []) (numberIn (step S t 0 a b))
   unfolding step pass
@@ -152,9 +153,9 @@ module _ {K W : Type 0} (S : ℕ) (t : Table K W) (a b : ℕ) where
       (λ e. eqb-true b 0 (not-false (eqb b 0) e))
       (λ e. eqb-false b 0 (not-true (eqb b 0) e))
       (λ e. first-need (leb a S) 4 (pace S t a b) (S < a) _
-          (λ f. leb-false a S f)
-          (λ f l. omega (arith, leb-true a S f))
-          (λ f. first-pace))
+      (λ f. leb-false a S f)
+      (λ f l. omega (arith, leb-true a S f))
+      (λ f. first-pace))
 
 module _ {K W : Type 0} (M : Store K W) (homes : (m : M .State) (k : K) → M .sized m ≡ true → M .home m k < M .size m) (m : M .State) where
   first-seen : (k : K) → First (row 5 (BadOnPath M m k) ∷ []) (numberIn (seenBy M m k (path M m k)))
@@ -175,9 +176,9 @@ module _ {K W : Type 0} (M : Store K W) (homes : (m : M .State) (k : K) → M .s
       go (told-miss e f p b a) = rw p (on b
           (by-lt f (M .size m)
           (λ l x. rw x (on (λ y. omega (arith, miss-free (M .keys) (M .size m) (M .home m k) (M .slots m) k e f p, full-no-free (M .keys) (M .size m) (M .home m k) (homes m k z) (M .slots m) k (y .1)))
-              (by-bool (leb (M .weight k) (M .bytes m - used M m))
-              (λ y. rw y (on (λ w. omega (arith, w .1, leb-true (M .weight k) (M .bytes m - used M m) y)) none-applies))
-              (λ y. rw y (here (a, leb-false (M .weight k) (M .bytes m - used M m) y))))))
+          (by-bool (leb (M .weight k) (M .bytes m - used M m))
+          (λ y. rw y (on (λ w. omega (arith, w .1, leb-true (M .weight k) (M .bytes m - used M m) y)) none-applies))
+          (λ y. rw y (here (a, leb-false (M .weight k) (M .bytes m - used M m) y))))))
           (λ l x. rw x (here (a, no-free-full (M .keys) (M .size m) (M .home m k) (homes m k z) (M .slots m) k e f p l)))))
       go (told-hurt p b) = rw p (here b)
 
@@ -195,17 +196,17 @@ module _ {K W : Type 0} (M : Store K W) (homes : (m : M .State) (k : K) → M .s
           (by-same (M .keys) k a
           (λ q x. rw x (on (λ h. h w l (e ∙ ap (λ y. live y w) (sym q))) none-applies))
           (λ x. rw x (here (λ v c q.
-              let r : live a w ≡ live k v = sym e ∙ q in
-              let d : k ≡ a = cc in
-              let y : _≡_ {A = Bool} true false = sym (M .keys .self k) ∙ ap (λ b. M .keys .same k b) d ∙ x in
-              let z : _≡_ {A = ℕ} 0 1 = cc in omega arith))))
+          let r : live a w ≡ live k v = sym e ∙ q in
+          let d : k ≡ a = cc in
+          let y : _≡_ {A = Bool} true false = sym (M .keys .self k) ∙ ap (λ b. M .keys .same k b) d ∙ x in
+          let z : _≡_ {A = ℕ} 0 1 = cc in omega arith))))
 
   not-five : (f e : ℕ) (k : K) → need {A = Spot W} (ltb f (M .size m)) 7 (need (leb (M .weight k) (M .bytes m - used M m)) 8 (ok (vacant (slotAt M m k f) e))) ≡ no 5 → ⊥
   unfolding need
   not-five f e k h = by-bool (ltb f (M .size m))
       (λ x. by-bool (leb (M .weight k) (M .bytes m - used M m))
-          (λ y. let c : _≡_ {A = Or (Spot W)} (ok (vacant (slotAt M m k f) e)) (no 5) = rw (x, y) at h in let z : _≡_ {A = ℕ} 0 1 = cc in omega arith)
-          (λ y. let c : _≡_ {A = Or (Spot W)} (no 8) (no 5) = rw (x, y) at h in let z : _≡_ {A = ℕ} 8 5 = cc in omega arith))
+      (λ y. let c : _≡_ {A = Or (Spot W)} (ok (vacant (slotAt M m k f) e)) (no 5) = rw (x, y) at h in let z : _≡_ {A = ℕ} 0 1 = cc in omega arith)
+      (λ y. let c : _≡_ {A = Or (Spot W)} (no 8) (no 5) = rw (x, y) at h in let z : _≡_ {A = ℕ} 8 5 = cc in omega arith))
       (λ x. let c : _≡_ {A = Or (Spot W)} (no 7) (no 5) = rw x at h in let z : _≡_ {A = ℕ} 7 5 = cc in omega arith)
 
   -- a vacant handle: 6 unless insert would use its slot

@@ -168,8 +168,8 @@ module _ {K W : Type 0} (M : Store K W) (L : Lawful M) where
       (λ o k n q r t. counted-own M (w (p .0)) o k n r (subst (λ c. counted (answer M w (p .0) c) ≡ some n) q t))
       (in-step cs (turned M w (p .0) (p .1)) (becomes M w e (p .0) (p .1))
       (λ y f q. by-eq y (p .0)
-          (λ r t. rw t (left-shows w e known (p .0) (p .1) f (rw t at q)))
-          (λ r t. rw t (known y f (rw t at q)))))
+      (λ r t. rw t (left-shows w e known (p .0) (p .1) f (rw t at q)))
+      (λ r t. rw t (known y f (rw t at q)))))
 
   -- demand 2, from any memory: nothing is known at first, and make makes a table known
   pub demand-2 : (cs : List (ℕ × Call K W)) (w : World M) → InStep M L cs w (λ y. none)

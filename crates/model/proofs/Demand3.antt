@@ -60,18 +60,19 @@ module _ {K W : Type 0} (E : Keys K) (S : ℕ) (t : Table K W) (once : (i j : �
       told : (a : Paced K W) → Strode S t w b a → handsOut E k (ok a) + past i w ≡ past i (movedBy w (ok a))
       told a (strode-pair j k′ v′ lo hi u q none-between r) = rw r (by-same E k k′
           (λ s x. let d : i ≡ j = once i j k v v′ l hi e (q ∙ ap (λ y. live y v′) (sym s)) in
-              rw x (omega (arith, past-none i w (omega arith), past-one i (suc j) (omega arith))))
+          rw x (omega (arith, past-none i w (omega arith), past-one i (suc j) (omega arith))))
           (λ x. rw x (past-same i w (suc j) (λ y. omega arith)
-              (λ y. by-lt i j
-                  (λ z o. absurd (not-between t i k v e (none-between i y z)))
-                  (λ z o. by-eq i j
-                      (λ d p. let m : live k v ≡ live k′ v′ = sym e ∙ ap t d ∙ q in
-                              let c : k ≡ k′ = cc in
-                              let f : true ≡ false = sym (E .self k) ∙ ap (λ a. E .same k a) c ∙ x in
-                              let g : _≡_ {A = ℕ} 0 1 = cc in absurd (omega arith))
-                      (λ d p. omega arith))))))
+          (λ y. by-lt i j
+          (λ z o. absurd (not-between t i k v e (none-between i y z)))
+          (λ z o. by-eq i j
+          (λ d p. let m : live k v ≡ live k′ v′ = sym e ∙ ap t d ∙ q in
+          let c : k ≡ k′ = cc in
+          let f : true ≡ false = sym (E .self k) ∙ ap (λ a. E .same k a) c ∙ x in
+          let g : _≡_ {A = ℕ} 0 1 = cc in absurd (omega arith))
+          (λ d p. omega arith))))))
       told a (strode-nothing x lo hi u none-between r) = rw r (past-same i w x (λ y. omega arith) (λ y. by-lt i x (λ z o. absurd (not-between t i k v e (none-between i y z))) (λ z o. z)))
       told a (strode-done q r) = rw (r, q) (omega arith)
+
       go : (a : Or (Paced K W)) → step S t bar w b ≡ a → handsOut E k a + past i w ≡ past i (movedBy w a)
       go (no n) p = omega arith
       go (ok a) p = told a (strode S t w bar b a p)
@@ -85,6 +86,7 @@ module _ {K W : Type 0} (S : ℕ) (t : Table K W) where
       told a (strode-pair j k v lo hi u q c r) = rw r hi
       told a (strode-nothing x lo hi u c r) = rw r hi
       told a (strode-done q r) = rw r (omega arith)
+
       go : (a : Or (Paced K W)) → step S t bar w b ≡ a → movedBy w a ≤ S
       go (no n) p = l
       go (ok a) p = told a (strode S t w bar b a p)
@@ -97,6 +99,7 @@ module _ {K W : Type 0} (S : ℕ) (t : Table K W) where
       told a (strode-pair j k v lo hi u q c p) h = rw p (omega arith)
       told a (strode-nothing x lo hi u c p) h = rw p (omega arith)
       told a (strode-done q p) h = rw p (omega arith)
+
       go : (a : Or (Paced K W)) → step S t bar w b ≡ a → S ≤ unrefused a + r + w → S ≤ r + movedBy w a
       go (no n) p h = omega arith
       go (ok a) p h = told a (strode S t w bar b a p) h
@@ -120,8 +123,8 @@ module _ {K W : Type 0} (S : ℕ) (t : Table K W) where
   unfolding step pace paceTo need pass unrefused
   step-going w b whole l h = rw (ne-eqb b 0 (omega arith), le-leb w S h) (by-bool (eqb w S) (λ e. rw e)
       (λ e. rw e (by-lt (from (λ i. halts (t i)) (reachOf S w b) w) (w + reachOf S w b)
-          (λ c p. rw p (halted-unrefused w (from (λ i. halts (t i)) (reachOf S w b) w) (t (from (λ i. halts (t i)) (reachOf S w b) w)) (whole (from (λ i. halts (t i)) (reachOf S w b) w) (omega (arith, reach-high S w b)))))
-          (λ c p. rw p))))
+      (λ c p. rw p (halted-unrefused w (from (λ i. halts (t i)) (reachOf S w b) w) (t (from (λ i. halts (t i)) (reachOf S w b) w)) (whole (from (λ i. halts (t i)) (reachOf S w b) w) (omega (arith, reach-high S w b)))))
+      (λ c p. rw p))))
 
 module _ {K W : Type 0} (M : Machine K W) (O : Orderly M) where
   -- a key that stays is in the map now
@@ -198,22 +201,23 @@ module _ {K W : Type 0} (M : Machine K W) (O : Orderly M) where
   -- demand 3
   pub demand-3 : (x : M .State) → O .Fine x → Walked M x
   demand-3 x f = record {
-      ending = λ es h. good-ends es x (M .ticket x) 0 (omega arith) (omega arith);
-      going = λ es b l e. going-on (stateAfter M x es) (M .ticket x) (walkAfter M x (M .ticket x) 0 es) b (fine-after es x f) l (walk-high es x (M .ticket x) 0 (omega arith)) e;
-      staying = λ k es s h.
-          let (v, p) = stay-now es x k s in
-          let (i, l, e) = look-some (M .keys) k (M .table x) (M .size) v p in
-          omega (arith, times-past es x (M .ticket x) 0 f k i v l e s, past-none i 0 (omega arith), past-one i (walkAfter M x (M .ticket x) 0 es) (omega arith));
-      present = λ es b k v y n e.
-          let (j, a, l, q, z) = stepped-pair (stateAfter M x es) (M .ticket x) (walkAfter M x (M .ticket x) 0 es) b k v y n e in
-          once-look (M .keys) (M .size) (M .table (stateAfter M x es)) (O .once (stateAfter M x es) (fine-after es x f)) k j v l q;
-      apart = λ es fs b c k v u y n z i e g. by-bool (stays M k (stateAfter M x es) fs)
-          (λ s.
-              let f′ = fine-after es x f in
-              let (j, a, l, q, d) = stepped-pair (stateAfter M x es) (M .ticket x) (walkAfter M x (M .ticket x) 0 es) b k v y n e in
-              let (j′, a′, l′, q′, d′) = stepped-pair (stateAfter M (stateAfter M x es) fs) (M .ticket x) (walkAfter M (stateAfter M x es) (M .ticket x) y fs) c k u z i g in
-              let (o, p) = stay-slot fs (stateAfter M x es) f′ k j v l q s in
-              let t = times-past fs (stateAfter M x es) (M .ticket x) y f′ k j v l q s in
-              let h : j ≡ j′ = O .once (stateAfter M (stateAfter M x es) fs) (fine-after fs (stateAfter M x es) f′) j j′ k o u l l′ p q′ in
-              absurd (omega (arith, past-one j y (omega arith), past-none j (walkAfter M (stateAfter M x es) (M .ticket x) y fs) (omega arith))))
-          (λ s. s) }
+    ending = λ es h. good-ends es x (M .ticket x) 0 (omega arith) (omega arith);
+    going = λ es b l e. going-on (stateAfter M x es) (M .ticket x) (walkAfter M x (M .ticket x) 0 es) b (fine-after es x f) l (walk-high es x (M .ticket x) 0 (omega arith)) e;
+    staying = λ k es s h.
+        let (v, p) = stay-now es x k s in
+        let (i, l, e) = look-some (M .keys) k (M .table x) (M .size) v p in
+        omega (arith, times-past es x (M .ticket x) 0 f k i v l e s, past-none i 0 (omega arith), past-one i (walkAfter M x (M .ticket x) 0 es) (omega arith));
+    present = λ es b k v y n e.
+        let (j, a, l, q, z) = stepped-pair (stateAfter M x es) (M .ticket x) (walkAfter M x (M .ticket x) 0 es) b k v y n e in
+        once-look (M .keys) (M .size) (M .table (stateAfter M x es)) (O .once (stateAfter M x es) (fine-after es x f)) k j v l q;
+    apart = λ es fs b c k v u y n z i e g. by-bool (stays M k (stateAfter M x es) fs)
+        (λ s.
+        let f′ = fine-after es x f in
+        let (j, a, l, q, d) = stepped-pair (stateAfter M x es) (M .ticket x) (walkAfter M x (M .ticket x) 0 es) b k v y n e in
+        let (j′, a′, l′, q′, d′) = stepped-pair (stateAfter M (stateAfter M x es) fs) (M .ticket x) (walkAfter M (stateAfter M x es) (M .ticket x) y fs) c k u z i g in
+        let (o, p) = stay-slot fs (stateAfter M x es) f′ k j v l q s in
+        let t = times-past fs (stateAfter M x es) (M .ticket x) y f′ k j v l q s in
+        let h : j ≡ j′ = O .once (stateAfter M (stateAfter M x es) fs) (fine-after fs (stateAfter M x es) f′) j j′ k o u l l′ p q′ in
+        absurd (omega (arith, past-one j y (omega arith), past-none j (walkAfter M (stateAfter M x es) (M .ticket x) y fs) (omega arith))))
+        (λ s. s);
+  }

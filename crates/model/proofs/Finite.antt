@@ -17,11 +17,11 @@ module _ {K : Type 0} (E : Keys K) where
   member-select p k [] = by-bool (p k) (λ e. rw e) (λ e. rw e)
   member-select p k (a ∷ ks) = by-bool (p a)
       (λ e. rw e (by-same E k a
-          (λ q x. rw (x, q, e))
-          (λ x. rw x (member-select p k ks))))
+      (λ q x. rw (x, q, e))
+      (λ x. rw x (member-select p k ks))))
       (λ e. rw e (by-same E k a
-          (λ q x. rw (member-select p k ks, x, q, e))
-          (λ x. rw x (member-select p k ks))))
+      (λ q x. rw (member-select p k ks, x, q, e))
+      (λ x. rw x (member-select p k ks))))
 
   pub member-append : (k : K) (xs ys : List K) → member E k (xs ++ ys) ≡ cond (member E k xs) true (member E k ys)
   unfolding member
@@ -72,27 +72,31 @@ module _ {K : Type 0} (E : Keys K) where
     unfolding insert contains member isSome
     insert-proper f k v p = by-bool (isSome (f .look k))
         (λ e. record {
-            listed = λ a. rw e (by-same E a k (λ q x. rw x (p .listed a ∙ (rw (q, e)))) (λ x. rw x (p .listed a)));
-            once = rw e (p .once) })
+          listed = λ a. rw e (by-same E a k (λ q x. rw x (p .listed a ∙ (rw (q, e)))) (λ x. rw x (p .listed a)));
+          once = rw e (p .once);
+        })
         (λ e. record {
-            listed = λ a. rw e (by-same E a k (λ q x. rw x) (λ x. rw x (p .listed a)));
-            once = rw e (once-more (p .listed k ∙ e) (p .once)) })
+          listed = λ a. rw e (by-same E a k (λ q x. rw x) (λ x. rw x (p .listed a)));
+          once = rw e (once-more (p .listed k ∙ e) (p .once));
+        })
 
     pub remove-proper : (f : Finite K W) (k : K) → Proper E f → Proper E (remove E f k)
     unfolding remove contains isSome
     remove-proper f k p = record {
-        listed = λ a. member-select (λ x. not (E .same x k)) a (f .dom) ∙ by-same E a k (λ q x. rw x) (λ x. rw x (p .listed a));
-        once = once-select (λ x. not (E .same x k)) (f .dom) (p .once) }
+      listed = λ a. member-select (λ x. not (E .same x k)) a (f .dom) ∙ by-same E a k (λ q x. rw x) (λ x. rw x (p .listed a));
+      once = once-select (λ x. not (E .same x k)) (f .dom) (p .once);
+    }
 
     pub union-proper : (f g : Finite K W) → Proper E f → Proper E g → Proper E (union-prefer-right f g)
     unfolding union-prefer-right contains isSome orElse
     union-proper f g p q = record {
-        listed = λ a. member-append a (select (λ x. not (contains f x)) (g .dom)) (f .dom)
-            ∙ rw (member-select (λ x. not (contains f x)) a (g .dom), p .listed a, q .listed a) (go (g .look a) (f .look a));
-        once = once-append (select (λ x. not (contains f x)) (g .dom)) (f .dom) (once-select (λ x. not (contains f x)) (g .dom) (q .once)) (p .once)
-            (λ k e. p .listed k ∙ by-bool (isSome (f .look k))
-                (λ x. let z : _≡_ {A = Bool} false true = sym (member-select (λ x. not (contains f x)) k (g .dom) ∙ (rw x)) ∙ e in cc)
-                (λ x. x)) }
+      listed = λ a. member-append a (select (λ x. not (contains f x)) (g .dom)) (f .dom)
+          ∙ rw (member-select (λ x. not (contains f x)) a (g .dom), p .listed a, q .listed a) (go (g .look a) (f .look a));
+      once = once-append (select (λ x. not (contains f x)) (g .dom)) (f .dom) (once-select (λ x. not (contains f x)) (g .dom) (q .once)) (p .once)
+          (λ k e. p .listed k ∙ by-bool (isSome (f .look k))
+          (λ x. let z : _≡_ {A = Bool} false true = sym (member-select (λ x. not (contains f x)) k (g .dom) ∙ (rw x)) ∙ e in cc)
+          (λ x. x));
+    }
       where
         go : (x y : Option W) → cond (cond (not (isSome y)) (isSome x) false) true (isSome y) ≡ isSome (orElse x y)
         go none none = refl
@@ -127,8 +131,8 @@ module _ {K W : Type 0} (g : K → ℕ) where
   once-put {S} {t} x once i j k v w a b p q = by-put t x freed i
       (λ e r. let z : _≡_ {A = ℕ} 0 1 = cc in absurd (omega arith))
       (λ e r. by-put t x freed j
-          (λ e′ r′. let z : _≡_ {A = ℕ} 0 1 = cc in absurd (omega arith))
-          (λ e′ r′. once i j k v w a b (sym r ∙ p) (sym r′ ∙ q)))
+      (λ e′ r′. let z : _≡_ {A = ℕ} 0 1 = cc in absurd (omega arith))
+      (λ e′ r′. once i j k v w a b (sym r ∙ p) (sym r′ ∙ q)))
 
   -- where each live key stands once, and the list has just the live keys, each once, the totals agree
   pub total-mass : (E : Keys K) (S : ℕ) (ks : List K) (t : Table K W) → ((i j : ℕ) (k : K) (v w : W) → i < S → j < S → t i ≡ live k v → t j ≡ live k w → i ≡ j) → Once E ks → ((k : K) → member E k ks ≡ isSome (look E t S k)) → total g t S ≡ mass g ks
@@ -140,6 +144,6 @@ module _ {K W : Type 0} (g : K → ℕ) where
       let (v, p) = some-is E (look E t S k) (sym (h k) ∙ (rw (E .self k))) in
       let (i, l, q) = look-some E k t S v p in
       let r = total-mass E S ks (put t i freed) (once-put i once) o (λ a. by-same E a k
-          (λ x e. rw (removed-look E S t once k i v l q a, e, x) m)
-          (λ e. rw (removed-look E S t once k i v l q a, e) (rw e at (h a)))) in
+      (λ x e. rw (removed-look E S t once k i v l q a, e, x) m)
+      (λ e. rw (removed-look E S t once k i v l q a, e) (rw e at (h a)))) in
       omega (arith, r, total-put g t i freed S l, ap (λ s. weigh g s) q)

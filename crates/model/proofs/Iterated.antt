@@ -52,6 +52,7 @@ module _ {K W : Type 0} where
       told a (strode-pair j k v lo hi u q c r) = rw r (passed t w j k v lo q c)
       told a (strode-nothing x lo hi u c r) = rw r (pairs-gap t w x (omega arith) c ∙ sym (append-nil (pairs t w)))
       told a (strode-done q r) = rw (r, ← q) (sym (append-nil (pairs t w)))
+
       go : (a : Or (Paced K W)) → step S t bar w b ≡ a → pairs t (movedBy w a) ≡ pairs t w ++ pairFrom a
       go (no n) p = sym (append-nil (pairs t w))
       go (ok a) p = told a (strode S t w bar b a p)
@@ -116,15 +117,16 @@ module _ {K W : Type 0} where
   pub pairs-iterated : (E : Keys K) (S : ℕ) (t : Table K W) → ((i j : ℕ) (k : K) (v w : W) → i < S → j < S → t i ≡ live k v → t j ≡ live k w → i ≡ j) → Iterated E t S (pairs t S)
   unfolding finiteOf contains
   pairs-iterated E S t once = record {
-      all = pairs-length t S;
-      right = λ k v m. let (i, l, e) = pair-slot t S k v m in once-look E S t once k i v l e;
-      there = λ k v e. let (i, l, q) = look-some E k t S v e in slot-pair t S i k v l q;
-      once = finite-proper E S t once .once;
-      keys = finite-proper E S t once .listed;
-      keys-all = firsts-length (pairs t S) ∙ pairs-length t S;
-      values = λ v m. let (k, p) = of-second v (pairs t S) m in let (i, l, e) = pair-slot t S k v p in (k, once-look E S t once k i v l e);
-      values-there = λ k v e. let (i, l, q) = look-some E k t S v e in second-of k v (pairs t S) (slot-pair t S i k v l q);
-      values-all = seconds-length (pairs t S) ∙ pairs-length t S }
+    all = pairs-length t S;
+    right = λ k v m. let (i, l, e) = pair-slot t S k v m in once-look E S t once k i v l e;
+    there = λ k v e. let (i, l, q) = look-some E k t S v e in slot-pair t S i k v l q;
+    once = finite-proper E S t once .once;
+    keys = finite-proper E S t once .listed;
+    keys-all = firsts-length (pairs t S) ∙ pairs-length t S;
+    values = λ v m. let (k, p) = of-second v (pairs t S) m in let (i, l, e) = pair-slot t S k v p in (k, once-look E S t once k i v l e);
+    values-there = λ k v e. let (i, l, q) = look-some E k t S v e in second-of k v (pairs t S) (slot-pair t S i k v l q);
+    values-all = seconds-length (pairs t S) ∙ pairs-length t S;
+  }
 
 module _ {K W : Type 0} (M : Machine K W) where
   stepped-pairs : (x : M .State) (q : M .Ticket) (w b : ℕ) → pairs (M .table x) (movedBy w (stepped M x q w b)) ≡ pairs (M .table x) w ++ pairFrom (stepped M x q w b)

@@ -17,3 +17,4 @@ pub mod Tables
 pub mod Iterated
 pub mod Plain
 pub mod Demand1
+pub mod Least

@@ -37,8 +37,8 @@ from-unique f zero n r l u b h = omega arith
 from-unique f (suc g) n r l u b h = by-bool (f n)
     (λ e. rw e (by-lt n r (λ l′ x. let z : _≡_ {A = Bool} true false = sym e ∙ b n (omega arith) l′ in cc) (λ l′ x. omega arith)))
     (λ e. rw e (by-lt n r
-      (λ l′ x. from-unique f g (suc n) r l′ (omega arith) (λ m a c. b m (omega arith) c) (λ c. h (omega arith)))
-      (λ l′ x. let q : r ≡ n = omega arith in let z : _≡_ {A = Bool} true false = sym (h (omega arith)) ∙ (rw q e) in cc)))
+    (λ l′ x. from-unique f g (suc n) r l′ (omega arith) (λ m a c. b m (omega arith) c) (λ c. h (omega arith)))
+    (λ l′ x. let q : r ≡ n = omega arith in let z : _≡_ {A = Bool} true false = sym (h (omega arith)) ∙ (rw q e) in cc)))
 
 -- the place of slot i on the path from h
 unfoldable pub place : ℕ → ℕ → ℕ → ℕ
@@ -104,8 +104,8 @@ module _ {K W : Type 0} (E : Keys K) (S h : ℕ) (t : Table K W) (k : K) where
   pub find-ended : Ended (find E S h t k)
   unfolding find ends
   find-ended = by-lt (stopAt E S h t k) S
-    (λ l e. rw e (go l (t (at S h (stopAt E S h t k))) refl (stopped E k _ (stop-here l))))
-    (λ l e. rw e (ended-round (omega (arith, stop-high))))
+      (λ l e. rw e (go l (t (at S h (stopAt E S h t k))) refl (stopped E k _ (stop-here l))))
+      (λ l e. rw e (ended-round (omega (arith, stop-high))))
     where
       go : stopAt E S h t k < S → (s : Slot K W) → t (at S h (stopAt E S h t k)) ≡ s → Stopped E k s → Ended (ends (stopAt E S h t k) (freeAt S h t) s)
       go l s q (on-never e) = rw e (ended-never (stopAt E S h t k) refl l (q ∙ e))
@@ -195,8 +195,8 @@ module _ {K W : Type 0} (E : Keys K) (S h : ℕ) (t : Table K W) (k : K) where
   unfolding examined
   examined-stop j l e = by-lt (stopAt E S h t k) S
       (λ c x. by-lt j (stopAt E S h t k)
-          (λ d y. let z : _≡_ {A = Bool} true false = sym e ∙ stop-before j d in let n : _≡_ {A = ℕ} 0 1 = cc in absurd (omega arith))
-          (λ d y. (omega (arith, rw x at l), c)))
+      (λ d y. let z : _≡_ {A = Bool} true false = sym e ∙ stop-before j d in let n : _≡_ {A = ℕ} 0 1 = cc in absurd (omega arith))
+      (λ d y. (omega (arith, rw x at l), c)))
       (λ c x. let z : _≡_ {A = Bool} true false = sym e ∙ stop-before j (omega (arith, rw x at l)) in let n : _≡_ {A = ℕ} 0 1 = cc in absurd (omega arith))
 
 module _ {K W : Type 0} (S h : ℕ) (t : Table K W) where

@@ -25,11 +25,12 @@ module _ {K W : Type 0} (E : Keys K) (weight : K → ℕ) where
   pub plain-lawful : Lawful (plain {W = W} E weight)
   unfolding used frees weigh revalued made
   plain-lawful = record {
-      Good = Fits;
-      homes = λ m k e. by-lt (m .home k) (m .size) (λ l x. rw x l) (λ l x. rw x (ltb-true 0 (m .size) e));
-      unharmed = λ m e g s. le-ltb (m .bytes) (total weight (m .slots) (m .size)) g;
-      within = λ m e g. g;
-      over-wrote = λ m i k v w e g l q. rw q (wrote m (put (m .slots) i (live k v)) (omega (arith, total-put weight (m .slots) i (live k v) (m .size) l, ap (λ s. weigh weight s) q)));
-      fill-wrote = λ m i k v e g l q u. wrote m (put (m .slots) i (live k v)) (omega (arith, total-put weight (m .slots) i (live k v) (m .size) l));
-      free-wrote = λ m i k w e g l q. wrote m (put (m .slots) i freed) (omega (arith, total-put weight (m .slots) i freed (m .size) l));
-      wipe-wrote = λ m e. wrote m made (omega (arith, total-dead {W = W} weight made (m .size) (λ i l a v q. let z : _≡_ {A = ℕ} 0 1 = cc in omega arith))) }
+    Good = Fits;
+    homes = λ m k e. by-lt (m .home k) (m .size) (λ l x. rw x l) (λ l x. rw x (ltb-true 0 (m .size) e));
+    unharmed = λ m e g s. le-ltb (m .bytes) (total weight (m .slots) (m .size)) g;
+    within = λ m e g. g;
+    over-wrote = λ m i k v w e g l q. rw q (wrote m (put (m .slots) i (live k v)) (omega (arith, total-put weight (m .slots) i (live k v) (m .size) l, ap (λ s. weigh weight s) q)));
+    fill-wrote = λ m i k v e g l q u. wrote m (put (m .slots) i (live k v)) (omega (arith, total-put weight (m .slots) i (live k v) (m .size) l));
+    free-wrote = λ m i k w e g l q. wrote m (put (m .slots) i freed) (omega (arith, total-put weight (m .slots) i freed (m .size) l));
+    wipe-wrote = λ m e. wrote m made (omega (arith, total-dead {W = W} weight made (m .size) (λ i l a v q. let z : _≡_ {A = ℕ} 0 1 = cc in omega arith)));
+  }

@@ -28,15 +28,17 @@ module _ {K W : Type 0} (M : Store K W) (L : Lawful M) where
   -- a write that leaves sound slots leaves a sound memory
   wrote-healthy : (m n : M .State) (t : Table K W) → M .sized m ≡ true → Wrote M (L .Good) m n t → Sound (M .size m) (M .home m) t → Healthy M L n
   wrote-healthy m n t z w s = record {
-      sized = w .sized ∙ z;
-      good = w .good;
-      sound = rw (w .slots, w .size, w .home) s }
+    sized = w .sized ∙ z;
+    good = w .good;
+    sound = rw (w .slots, w .size, w .home) s;
+  }
 
   wrote-shows : (m n : M .State) (t : Table K W) (f : Finite K W) → M .sized m ≡ true → Wrote M (L .Good) m n t → Sound (M .size m) (M .home m) t → ((k : K) → look (M .keys) t (M .size m) k ≡ f .look k) → Proper (M .keys) f → Shows M L n f
   wrote-shows m n t f z w s e p = record {
-      healthy = wrote-healthy m n t z w s;
-      looks = λ k. rw (w .slots, w .size) (e k);
-      proper = p }
+    healthy = wrote-healthy m n t z w s;
+    looks = λ k. rw (w .slots, w .size) (e k);
+    proper = p;
+  }
 
   pub shows-wipe : (m : M .State) → M .sized m ≡ true → Shows M L (M .wipe m) empty
   unfolding empty
@@ -95,13 +97,13 @@ module _ {K W : Type 0} (M : Store K W) (L : Lawful M) where
     unfolding live-count
     free-room k e l = by-lt (count (M .slots m) (M .size m)) (M .size m) (λ c x. c)
         (λ c x. let q = full-no-free (M .keys) (M .size m) (M .home m k) (home-below m (s .healthy) k) (M .slots m) k (omega (arith, count-high (M .slots m) (M .size m))) in
-                let z : ⊥ = omega arith in absurd z)
+        let z : ⊥ = omega arith in absurd z)
 
     pub room-free : (k : K) → path M m k ≡ miss (pathLength M m k) (freeAt (M .size m) (M .home m k) (M .slots m)) → live-count M m < M .size m → freeAt (M .size m) (M .home m k) (M .slots m) < M .size m
     unfolding path live-count
     room-free k q c = by-lt (freeAt (M .size m) (M .home m k) (M .slots m)) (M .size m) (λ l x. l)
         (λ l x. let e = no-free-full (M .keys) (M .size m) (M .home m k) (home-below m (s .healthy) k) (M .slots m) k (pathLength M m k) (freeAt (M .size m) (M .home m k) (M .slots m)) q l in
-                let z : ⊥ = omega arith in absurd z)
+        let z : ⊥ = omega arith in absurd z)
 
     pub shows-unhurt : hurtful M m ≡ false
     unfolding hurtful

@@ -69,8 +69,8 @@ module _ {K W : Type 0} (E : Keys K) (k : K) where
     look-some zero v e = let z : _≡_ {A = ℕ} 0 1 = cc in absurd (omega arith)
     look-some (suc n) v e = by-bool (holds E k (t n))
         (λ p. let (w, q) = holds-value (t n) p in
-              let r : some w ≡ some v = sym (value-holds (t n) (look E t n k) w q) ∙ e in
-              (n, omega arith, q ∙ ap (λ x. live k x) cc))
+        let r : some w ≡ some v = sym (value-holds (t n) (look E t n k) w q) ∙ e in
+        (n, omega arith, q ∙ ap (λ x. live k x) cc))
         (λ p. let (i, l, q) = look-some n v (sym (value-lacks (t n) (look E t n k) p) ∙ e) in (i, omega arith, q))
 
     pub look-gone : (n i : ℕ) → look E t n k ≡ none → i < n → holds E k (t i) ≡ false
@@ -78,8 +78,8 @@ module _ {K W : Type 0} (E : Keys K) (k : K) where
     look-gone zero i e l = let z : ⊥ = omega arith in absurd z
     look-gone (suc n) i e l = by-bool (holds E k (t n))
         (λ p. let (w, q) = holds-value (t n) p in
-              let r : some w ≡ none = sym (value-holds (t n) (look E t n k) w q) ∙ e in
-              let z : _≡_ {A = ℕ} 0 1 = cc in absurd (omega arith))
+        let r : some w ≡ none = sym (value-holds (t n) (look E t n k) w q) ∙ e in
+        let z : _≡_ {A = ℕ} 0 1 = cc in absurd (omega arith))
         (λ p. by-lt i n (λ l′ x. look-gone n i (sym (value-lacks (t n) (look E t n k) p) ∙ e) l′) (λ l′ x. let q : i ≡ n = omega arith in rw q p))
 
 module _ {K W : Type 0} (g : K → ℕ) where
@@ -95,10 +95,10 @@ module _ {K W : Type 0} (g : K → ℕ) where
   total-put t i s (suc n) l = by-lt i n
       (λ l′ x. omega (arith, total-put t i s n l′, ap (λ c. weigh g c) (put-other t i s n (omega arith))))
       (λ l′ x. let q : i ≡ n = omega arith in
-               let a : total g (put t i s) n ≡ total g t n = total-same (put t i s) t n (λ j b. put-other t i s j (omega arith)) in
-               let c : put t i s n ≡ s = subst (λ j. put t i s j ≡ s) q (put-same t i s) in
-               let d : weigh g (t i) ≡ weigh g (t n) = ap (λ j. weigh g (t j)) q in
-               omega (arith, a, d, ap (λ c. weigh g c) c))
+      let a : total g (put t i s) n ≡ total g t n = total-same (put t i s) t n (λ j b. put-other t i s j (omega arith)) in
+      let c : put t i s n ≡ s = subst (λ j. put t i s j ≡ s) q (put-same t i s) in
+      let d : weigh g (t i) ≡ weigh g (t n) = ap (λ j. weigh g (t j)) q in
+      omega (arith, a, d, ap (λ c. weigh g c) c))
 
 module _ {K W : Type 0} where
   weigh-one : (s : Slot K W) → weigh (λ k. 1) s ≤ 1

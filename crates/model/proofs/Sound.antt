@@ -14,9 +14,10 @@ use Rattle.model.proofs.Slots.{put-same, put-other, by-put, holds-live,
 pub made-sound : {K W : Type 0} (S : ℕ) (home : K → ℕ) → Sound {W = W} S home made
 unfolding made
 made-sound {K} {W} S home = record {
-    whole = λ i l e. let z : _≡_ {A = ℕ} 0 1 = cc in omega arith;
-    once = λ i j k v w a b p q. let z : _≡_ {A = ℕ} 0 1 = cc in absurd (omega arith);
-    reach = λ k v n m a b p q. let z : _≡_ {A = ℕ} 0 1 = cc in omega arith }
+  whole = λ i l e. let z : _≡_ {A = ℕ} 0 1 = cc in omega arith;
+  once = λ i j k v w a b p q. let z : _≡_ {A = ℕ} 0 1 = cc in absurd (omega arith);
+  reach = λ k v n m a b p q. let z : _≡_ {A = ℕ} 0 1 = cc in omega arith;
+}
 
 stops-not : {K W : Type 0} (E : Keys K) (k : K) (s : Slot K W) → (s ≡ never → ⊥) → (s ≡ bad → ⊥) → ((v : W) → s ≡ live k v → ⊥) → stops E k s ≡ false
 unfolding stops
@@ -40,10 +41,10 @@ module _ {K W : Type 0} (E : Keys K) (S : ℕ) (home : K → ℕ) (homes : (k : 
       let n = place-below S (home k) i (homes k) l in
       find-hit E S (home k) t k (place S (home k) i) v n p
       (λ m b. stops-not E k (t (at S (home k) m))
-          (λ q. s .reach k v (place S (home k) i) m n b p q)
-          (λ q. s .whole (at S (home k) m) (at-below S (home k) m (homes k) (omega arith)) q)
-          (λ w q. let z = s .once (at S (home k) m) (at S (home k) (place S (home k) i)) k w v (at-below S (home k) m (homes k) (omega arith)) (at-below S (home k) (place S (home k) i) (homes k) n) q p in
-                  absurd (omega (arith, at-once S (home k) m (place S (home k) i) (homes k) (omega arith) n z))))
+      (λ q. s .reach k v (place S (home k) i) m n b p q)
+      (λ q. s .whole (at S (home k) m) (at-below S (home k) m (homes k) (omega arith)) q)
+      (λ w q. let z = s .once (at S (home k) m) (at S (home k) (place S (home k) i)) k w v (at-below S (home k) m (homes k) (omega arith)) (at-below S (home k) (place S (home k) i) (homes k) n) q p in
+      absurd (omega (arith, at-once S (home k) m (place S (home k) i) (homes k) (omega arith) n z))))
 
   -- a key of the map is found with its value
   pub sound-found : (k : K) (v : W) → look E t S k ≡ some v → (n : ℕ) × (find E S (home k) t k ≡ hit n v)
@@ -104,15 +105,16 @@ module _ {K W : Type 0} (E : Keys K) (S h : ℕ) (inside : h < S) (t : Table K W
 -- a slot put into a sound table keeps it sound, where it is neither 0 nor damaged, its key stands nowhere else, and no mark 0 stands before it on its path
 pub sound-put : {K W : Type 0} (S : ℕ) (home : K → ℕ) (homes : (k : K) → home k < S) (t : Table K W) → Sound S home t → (i : ℕ) → i < S → (s : Slot K W) → (s ≡ never → ⊥) → (s ≡ bad → ⊥) → ((k : K) (v : W) → s ≡ live k v → (j : ℕ) → j < S → (j ≡ i → ⊥) → (w : W) → t j ≡ live k w → ⊥) → ((k : K) (v : W) → s ≡ live k v → (n m : ℕ) → n < S → at S (home k) n ≡ i → m < n → t (at S (home k) m) ≡ never → ⊥) → Sound S home (put t i s)
 sound-put {K} {W} S home homes t o i l s not-never not-bad alone clear = record {
-    whole = λ j b e. by-put t i s j (λ q p. not-bad (sym p ∙ e)) (λ q p. o .whole j b (sym p ∙ e));
-    once = λ j m k v w b c e f. by-put t i s j
-        (λ q p. by-put t i s m (λ q′ p′. q ∙ sym q′) (λ q′ p′. absurd (alone k v (sym p ∙ e) m c q′ w (sym p′ ∙ f))))
-        (λ q p. by-put t i s m (λ q′ p′. absurd (alone k w (sym p′ ∙ f) j b q v (sym p ∙ e))) (λ q′ p′. o .once j m k v w b c (sym p ∙ e) (sym p′ ∙ f)));
-    reach = λ k v n m a b e f. by-put t i s (at S (home k) m)
-        (λ q p. not-never (sym p ∙ f))
-        (λ q p. by-put t i s (at S (home k) n)
-            (λ q′ p′. clear k v (sym p′ ∙ e) n m a q′ b (sym p ∙ f))
-            (λ q′ p′. o .reach k v n m a b (sym p′ ∙ e) (sym p ∙ f))) }
+  whole = λ j b e. by-put t i s j (λ q p. not-bad (sym p ∙ e)) (λ q p. o .whole j b (sym p ∙ e));
+  once = λ j m k v w b c e f. by-put t i s j
+      (λ q p. by-put t i s m (λ q′ p′. q ∙ sym q′) (λ q′ p′. absurd (alone k v (sym p ∙ e) m c q′ w (sym p′ ∙ f))))
+      (λ q p. by-put t i s m (λ q′ p′. absurd (alone k w (sym p′ ∙ f) j b q v (sym p ∙ e))) (λ q′ p′. o .once j m k v w b c (sym p ∙ e) (sym p′ ∙ f)));
+  reach = λ k v n m a b e f. by-put t i s (at S (home k) m)
+      (λ q p. not-never (sym p ∙ f))
+      (λ q p. by-put t i s (at S (home k) n)
+      (λ q′ p′. clear k v (sym p′ ∙ e) n m a q′ b (sym p ∙ f))
+      (λ q′ p′. o .reach k v n m a b (sym p′ ∙ e) (sym p ∙ f)));
+}
 
 -- the three changes that calls make: fresh, replaced, removed
 module _ {K W : Type 0} (E : Keys K) (S : ℕ) (home : K → ℕ) (homes : (k : K) → home k < S) (t : Table K W) (o : Sound S home t) (k : K) where
@@ -122,14 +124,14 @@ module _ {K W : Type 0} (E : Keys K) (S : ℕ) (home : K → ℕ) (homes : (k : 
       (λ q. let z : _≡_ {A = ℕ} 0 1 = cc in omega arith)
       (λ q. let z : _≡_ {A = ℕ} 0 1 = cc in omega arith)
       (λ a x q j b c w p. let r : k ≡ a = cc in
-          let z : _≡_ {A = Bool} true false = sym (holds-live E k (t j) w (p ∙ ap (λ y. live y w) (sym r))) ∙ look-gone E k t S j e b in
-          let y : _≡_ {A = ℕ} 0 1 = cc in omega arith)
+      let z : _≡_ {A = Bool} true false = sym (holds-live E k (t j) w (p ∙ ap (λ y. live y w) (sym r))) ∙ look-gone E k t S j e b in
+      let y : _≡_ {A = ℕ} 0 1 = cc in omega arith)
       (λ a x q n m b c d p. let r : k ≡ a = cc in
-          let c′ : at S (home k) n ≡ at S (home k) (freeAt S (home k) t) = subst (λ x. at S (home x) n ≡ at S (home k) (freeAt S (home k) t)) (sym r) c in
-          let n′ : n ≡ freeAt S (home k) t = at-once S (home k) n (freeAt S (home k) t) (homes k) b l c′ in
-          let p′ : t (at S (home k) m) ≡ never = rw r p in
-          let z : _≡_ {A = Bool} true false = sym (ap frees p′) ∙ free-before S (home k) t m (omega arith) in
-          let y : _≡_ {A = ℕ} 0 1 = cc in omega arith)
+      let c′ : at S (home k) n ≡ at S (home k) (freeAt S (home k) t) = subst (λ x. at S (home x) n ≡ at S (home k) (freeAt S (home k) t)) (sym r) c in
+      let n′ : n ≡ freeAt S (home k) t = at-once S (home k) n (freeAt S (home k) t) (homes k) b l c′ in
+      let p′ : t (at S (home k) m) ≡ never = rw r p in
+      let z : _≡_ {A = Bool} true false = sym (ap frees p′) ∙ free-before S (home k) t m (omega arith) in
+      let y : _≡_ {A = ℕ} 0 1 = cc in omega arith)
 
   pub replaced-sound : (i : ℕ) (v w : W) → i < S → t i ≡ live k w → Sound S home (put t i (live k v))
   replaced-sound i v w l e = sound-put S home homes t o i l (live k v)

@@ -68,16 +68,17 @@ module _ {K W : Type 0} (E : Keys K) where
   pairs-once S t once zero l = once-none
   pairs-once S t once (suc n) l = rw (firsts-append (pairs t n) (pairOf (t n))) (once-append E (firsts (pairs t n)) (firsts (pairOf (t n))) (pairs-once S t once n (omega arith)) (pair-once (t n))
       (λ k e. pair-lacks k (t n) (λ w q.
-          let (v, p) = some-is E (look E t n k) (ap isSome (sym (last-look E k t n)) ∙ sym (member-last k (pairs t n)) ∙ e) in
-          let (i, c, r) = look-some E k t n v p in
-          let z : i ≡ n = once i n k v w (omega arith) l r q in absurd (omega arith))))
+      let (v, p) = some-is E (look E t n k) (ap isSome (sym (last-look E k t n)) ∙ sym (member-last k (pairs t n)) ∙ e) in
+      let (i, c, r) = look-some E k t n v p in
+      let z : i ≡ n = once i n k v w (omega arith) l r q in absurd (omega arith))))
 
   -- a sound table's finite map is proper
   pub finite-proper : (S : ℕ) (t : Table K W) → ((i j : ℕ) (k : K) (v w : W) → i < S → j < S → t i ≡ live k v → t j ≡ live k w → i ≡ j) → Proper E (finiteOf E t S)
   unfolding finiteOf contains
   finite-proper S t once = record {
-      listed = λ k. member-last k (pairs t S) ∙ ap (λ o. isSome o) (last-look E k t S);
-      once = pairs-once S t once S (omega arith) }
+    listed = λ k. member-last k (pairs t S) ∙ ap (λ o. isSome o) (last-look E k t S);
+    once = pairs-once S t once S (omega arith);
+  }
 
 module _ {K W : Type 0} (M : Store K W) (L : Lawful M) where
   -- a sound memory shows the finite map of its slots
@@ -117,12 +118,15 @@ module _ {K W : Type 0} (M : Store K W) (L : Lawful M) where
   changed-stood m n h (took-slot j a x c d u e) = rw e ((λ i k v w l p q. fill-live m h j a x c d u i k v p), L .fill-wrote m j a x (h .sized) (h .good) c d u .size)
   changed-stood m n h (let-go j a y c d e) =
       let wr = L .free-wrote m j a y (h .sized) (h .good) c d in
-      rw e ((λ i k v w l p q. rw (wr .slots) (by-put (M .slots m) j freed i
-          (λ z r.
-              let a′ : look (M .keys) (put (M .slots m) j freed) (M .size m) k ≡ some w = rw (wr .slots, wr .size) at q in
-              let b′ : look (M .keys) (put (M .slots m) j freed) (M .size m) k ≡ none = removed-look (M .keys) (M .size m) (M .slots m) (h .sound .once) k j v c (ap (M .slots m) (sym z) ∙ p) k ∙ (rw (M .keys .self k)) in
-              let c′ : _≡_ {A = ℕ} 0 1 = cc in absurd (omega arith))
-          (λ z r. (v, r ∙ p)))), wr .size)
+      rw e (
+        (λ i k v w l p q. rw (wr .slots) (by-put (M .slots m) j freed i
+            (λ z r.
+            let a′ : look (M .keys) (put (M .slots m) j freed) (M .size m) k ≡ some w = rw (wr .slots, wr .size) at q in
+            let b′ : look (M .keys) (put (M .slots m) j freed) (M .size m) k ≡ none = removed-look (M .keys) (M .size m) (M .slots m) (h .sound .once) k j v c (ap (M .slots m) (sym z) ∙ p) k ∙ (rw (M .keys .self k)) in
+            let c′ : _≡_ {A = ℕ} 0 1 = cc in absurd (omega arith))
+            (λ z r. (v, r ∙ p)))),
+        wr .size,
+      )
 
   -- an accepted call on one table that does not make it anew changes at most one slot
   acted-changed : {A : Type 0} (m : M .State) (a : Or A) (n : M .State) → ((u : A) → a ≡ ok u → Changed m n) → Changed m (acted M m a n)
@@ -215,8 +219,8 @@ module _ {K W : Type 0} (M : Store K W) (L : Lawful M) where
       let all = insert-mass (M .keys) (M .weight) f (p .0) (p .1) in
       let (t, x, y) = rule-shows M L m f s (p .0) (p .1) (omega arith) (omega arith) in
       let (z, r) = all-live ps (rule M m (p .0) (p .1)) (insert (M .keys) f (p .0) (p .1)) t
-          (omega (arith, lacking-less (M .keys) (λ k. 1) f (p .0) (p .1) (firsts ps)))
-          (omega (arith, lacking-less (M .keys) (M .weight) f (p .0) (p .1) (firsts ps))) in
+      (omega (arith, lacking-less (M .keys) (λ k. 1) f (p .0) (p .1) (firsts ps)))
+      (omega (arith, lacking-less (M .keys) (M .weight) f (p .0) (p .1) (firsts ps))) in
       (z ∙ x, λ i k v e. let (u, q) = rule-live m f s (p .0) (p .1) (omega arith) (omega arith) i k v e in r i k u q)
 
   union-live : (l r : M .State) → Healthy M L l → (u : Unit {0}) → union M l r ≡ ok u → (M .size (storeAll M l (pairs (M .slots r) (M .size r))) ≡ M .size l) × ((i : ℕ) (k : K) (v : W) → M .slots l i ≡ live k v → (w : W) × (M .slots (storeAll M l (pairs (M .slots r) (M .size r))) i ≡ live k w))
@@ -298,23 +302,25 @@ module _ {K W : Type 0} (M : Store K W) (L : Lawful M) where
   pub tables-orderly : (x S : ℕ) → Orderly (tables M x S)
   unfolding turned placed
   tables-orderly x S = record {
-      Fine = λ w. AllSound M L x S w;
-      whole = λ w f i l e. f .healthy x .sound .whole i (rw (f .sized) l) e;
-      once = λ w f i j k v u a b p q. f .healthy x .sound .once i j k v u (rw (f .sized) a) (rw (f .sized) b) p q;
-      after-fine = λ w c f. record {
-          healthy = λ y. by-eq y (c .0) (λ r t. rw t (left-healthy w (f .healthy) (c .0) (c .1))) (λ r t. rw t (f .healthy y));
-          sized = by-eq x (c .0) (λ r t. rw t (left-size w (f .healthy) (c .0) (c .1) ∙ ap (λ y. M .size (w y)) (sym r) ∙ f .sized)) (λ r t. rw t (f .sized)) };
-      stands = λ w c f e i k v u l p q. by-eq x (c .0)
-          (λ r t.
-              let h : Healthy M L (left M w (c .0) (c .1)) = left-healthy w (f .healthy) (c .0) (c .1) in
-              let z : M .size (left M w (c .0) (c .1)) ≡ S = left-size w (f .healthy) (c .0) (c .1) ∙ ap (λ y. M .size (w y)) (sym r) ∙ f .sized in
-              let e′ : (sweeps M (c .1) && not (refuses (answer M w (c .0) (c .1)))) ≡ false = rw (eq-eqb (c .0) x (sym r)) at e in
-              let q′ : look (M .keys) (M .slots (left M w (c .0) (c .1))) (M .size (left M w (c .0) (c .1))) k ≡ some u = rw z (rw t at q) in
-              let p′ : M .slots (w (c .0)) i ≡ live k v = subst (λ y. M .slots (w y) i ≡ live k v) r p in
-              let l′ : i < M .size (w (c .0)) = rw (sym (left-size w (f .healthy) (c .0) (c .1)), z) l in
-              let (a, b) = left-stood w (f .healthy) (c .0) (c .1) e′ i k v u l′ p′ q′ in
-              rw t (settled (left M w (c .0) (c .1)) h i k a u (rw z l) b q′))
-          (λ r t. rw t (settled (w x) (f .healthy x) i k v u (rw (f .sized) l) p (rw (f .sized) (rw t at q)))) }
+    Fine = λ w. AllSound M L x S w;
+    whole = λ w f i l e. f .healthy x .sound .whole i (rw (f .sized) l) e;
+    once = λ w f i j k v u a b p q. f .healthy x .sound .once i j k v u (rw (f .sized) a) (rw (f .sized) b) p q;
+    after-fine = λ w c f. record {
+      healthy = λ y. by-eq y (c .0) (λ r t. rw t (left-healthy w (f .healthy) (c .0) (c .1))) (λ r t. rw t (f .healthy y));
+      sized = by-eq x (c .0) (λ r t. rw t (left-size w (f .healthy) (c .0) (c .1) ∙ ap (λ y. M .size (w y)) (sym r) ∙ f .sized)) (λ r t. rw t (f .sized));
+    };
+    stands = λ w c f e i k v u l p q. by-eq x (c .0)
+        (λ r t.
+        let h : Healthy M L (left M w (c .0) (c .1)) = left-healthy w (f .healthy) (c .0) (c .1) in
+        let z : M .size (left M w (c .0) (c .1)) ≡ S = left-size w (f .healthy) (c .0) (c .1) ∙ ap (λ y. M .size (w y)) (sym r) ∙ f .sized in
+        let e′ : (sweeps M (c .1) && not (refuses (answer M w (c .0) (c .1)))) ≡ false = rw (eq-eqb (c .0) x (sym r)) at e in
+        let q′ : look (M .keys) (M .slots (left M w (c .0) (c .1))) (M .size (left M w (c .0) (c .1))) k ≡ some u = rw z (rw t at q) in
+        let p′ : M .slots (w (c .0)) i ≡ live k v = subst (λ y. M .slots (w y) i ≡ live k v) r p in
+        let l′ : i < M .size (w (c .0)) = rw (sym (left-size w (f .healthy) (c .0) (c .1)), z) l in
+        let (a, b) = left-stood w (f .healthy) (c .0) (c .1) e′ i k v u l′ p′ q′ in
+        rw t (settled (left M w (c .0) (c .1)) h i k a u (rw z l) b q′))
+        (λ r t. rw t (settled (w x) (f .healthy x) i k v u (rw (f .sized) l) p (rw (f .sized) (rw t at q))));
+  }
 
   -- demand 3 for a table of any lawful store
   pub walk-kept : (x S : ℕ) (w : World M) → AllSound M L x S w → Walked (tables M x S) w

@@ -118,9 +118,10 @@ module _ {K W : Type 0} (M : Store K W) (L : Lawful M) where
         let c = need-ok (not (ruined M l)) 5 _ u b .1 in
         let d = need-ok (not (ruined M r)) 5 _ u c .1 in
         let x = need-ok (leb (needs M (λ k. 1) l r) (M .size l - live-count M l)) 7 _ u d in
-        let y = need-ok (leb (needs M (M .weight) l r) (M .bytes l - used M l)) 8 _ u (x .1) in
-        (omega (arith, leb-true (needs M (λ k. 1) l r) (M .size l - live-count M l) (x .0), needs-pairs (λ k. 1), live-length, len-high M L l f s),
-         omega (arith, leb-true (needs M (M .weight) l r) (M .bytes l - used M l) (y .0), needs-pairs (M .weight), used-mass M L l f s, used-high M L l f s))
+        let y = need-ok (leb (needs M (M .weight) l r) (M .bytes l - used M l)) 8 _ u (x .1) in (
+          omega (arith, leb-true (needs M (λ k. 1) l r) (M .size l - live-count M l) (x .0), needs-pairs (λ k. 1), live-length, len-high M L l f s),
+          omega (arith, leb-true (needs M (M .weight) l r) (M .bytes l - used M l) (y .0), needs-pairs (M .weight), used-mass M L l f s, used-high M L l f s),
+        )
 
     -- an accepted union of a sound left and ANY right: the right's pairs are inserted in slot order
     pub union-shows : (u : Unit {0}) → union M l r ≡ ok u → Shows M L (storeAll M l (pairs (M .slots r) (M .size r))) (insertAll (M .keys) f (pairs (M .slots r) (M .size r)))
@@ -154,7 +155,7 @@ module _ {K W : Type 0} (M : Store K W) (L : Lawful M) where
           rw (s .healthy .sized, t .healthy .sized, shows-unhurt M L l f s, shows-unharmed M L l f s, shows-unhurt M L r g t, shows-unharmed M L r g t)
           (by-bool (leb (needs M (λ k. 1) l r) (M .size l - live-count M l))
           (λ x. rw (x, le-leb (mass (λ k. 1) (union-prefer-right f g .dom)) (M .size l) (omega (arith, leb-true (needs M (λ k. 1) l r) (M .size l - live-count M l) x, live-length, len-high M L l f s)))
-              (by-bool (leb (needs M (M .weight) l r) (M .bytes l - used M l))
-              (λ y. rw (y, le-leb (mass (M .weight) (union-prefer-right f g .dom)) (M .bytes l) (omega (arith, leb-true (needs M (M .weight) l r) (M .bytes l - used M l) y, used-mass M L l f s, used-high M L l f s))))
-              (λ y. rw (y, lt-leb (mass (M .weight) (union-prefer-right f g .dom)) (M .bytes l) (omega (arith, leb-false (needs M (M .weight) l r) (M .bytes l - used M l) y, used-mass M L l f s))))))
+          (by-bool (leb (needs M (M .weight) l r) (M .bytes l - used M l))
+          (λ y. rw (y, le-leb (mass (M .weight) (union-prefer-right f g .dom)) (M .bytes l) (omega (arith, leb-true (needs M (M .weight) l r) (M .bytes l - used M l) y, used-mass M L l f s, used-high M L l f s))))
+          (λ y. rw (y, lt-leb (mass (M .weight) (union-prefer-right f g .dom)) (M .bytes l) (omega (arith, leb-false (needs M (M .weight) l r) (M .bytes l - used M l) y, used-mass M L l f s))))))
           (λ x. rw (x, lt-leb (mass (λ k. 1) (union-prefer-right f g .dom)) (M .size l) (omega (arith, leb-false (needs M (λ k. 1) l r) (M .size l - live-count M l) x, live-length)))))

@@ -52,12 +52,12 @@ module _ {K W : Type 0} (S : ℕ) (t : Table K W) (w : ℕ) where
       let hi = reach-high S w b in
       by-lt (from (λ i. halts (t i)) (reachOf S w b) w) (w + reachOf S w b)
       (λ c p.
-          let (k, v, q, r) = halted-at (from (λ i. halts (t i)) (reachOf S w b) w) (t (from (λ i. halts (t i)) (reachOf S w b) w)) a (from-here (λ i. halts (t i)) (reachOf S w b) w c) (rw p at e) in
-          strode-pair (from (λ i. halts (t i)) (reachOf S w b) w) k v lo (omega arith) (omega (arith, reach-budget S w b)) q (λ i x y. from-before (λ i. halts (t i)) (reachOf S w b) w i x y) r)
+      let (k, v, q, r) = halted-at (from (λ i. halts (t i)) (reachOf S w b) w) (t (from (λ i. halts (t i)) (reachOf S w b) w)) a (from-here (λ i. halts (t i)) (reachOf S w b) w c) (rw p at e) in
+      strode-pair (from (λ i. halts (t i)) (reachOf S w b) w) k v lo (omega arith) (omega (arith, reach-budget S w b)) q (λ i x y. from-before (λ i. halts (t i)) (reachOf S w b) w i x y) r)
       (λ c p.
-          let r : ok (nothing (w + reachOf S w b) (reachOf S w b)) ≡ ok a = rw p at e in
-          let d : w + reachOf S w b - w ≡ reachOf S w b = omega arith in
-          strode-nothing (w + reachOf S w b) (omega (arith, reach-low S w b h l)) (omega arith) (omega (arith, reach-budget S w b)) (λ i x y. from-before (λ i. halts (t i)) (reachOf S w b) w i x (omega arith)) (rw d (cc)))
+      let r : ok (nothing (w + reachOf S w b) (reachOf S w b)) ≡ ok a = rw p at e in
+      let d : w + reachOf S w b - w ≡ reachOf S w b = omega arith in
+      strode-nothing (w + reachOf S w b) (omega (arith, reach-low S w b h l)) (omega arith) (omega (arith, reach-budget S w b)) (λ i x y. from-before (λ i. halts (t i)) (reachOf S w b) w i x (omega arith)) (rw d (cc)))
 
   pub strode : (bar b : ℕ) (a : Paced K W) → step S t bar w b ≡ ok a → Strode b a
   unfolding step pace paceTo

@@ -25,9 +25,9 @@ Applies [] i = ⊥
 Applies (row n P ∷ rs) i = (P × (i ≡ n)) ⊎ Applies rs i
 
 -- The numbers of the rows that apply rise along the list, from above a.
-abbrev pub Rising : ℕ → List Row → Type 0
-Rising a [] = Unit {0}
-Rising a (row n P ∷ rs) = (P → a < n) × Rising (max a n) rs
+pub data Rising : ℕ → List Row → Type 1 where
+  rises-end : {a : ℕ} → Rising a []
+  rises : {a n : ℕ} {P : Type 0} {rs : List Row} → (P → a < n) → Rising (max a n) rs → Rising a (row n P ∷ rs)
 
 -- n is the least number that applies, and 0 where none does.
 pub record Least (rs : List Row) (n : ℕ) : Type 0 where

@@ -61,20 +61,23 @@ empty = record { look = λ a. none; dom = [] }
 -- The map with k mapped to v.
 unfoldable pub insert : {K W : Type 0} → Keys K → Finite K W → K → W → Finite K W
 insert E f k v = record {
-    look = λ a. cond (E .same a k) (some v) (f .look a);
-    dom = cond (contains f k) (f .dom) (k ∷ f .dom) }
+  look = λ a. cond (E .same a k) (some v) (f .look a);
+  dom = cond (contains f k) (f .dom) (k ∷ f .dom);
+}
 
 -- The map without k.
 unfoldable pub remove : {K W : Type 0} → Keys K → Finite K W → K → Finite K W
 remove E f k = record {
-    look = λ a. cond (E .same a k) none (f .look a);
-    dom = select (λ a. not (E .same a k)) (f .dom) }
+  look = λ a. cond (E .same a k) none (f .look a);
+  dom = select (λ a. not (E .same a k)) (f .dom);
+}
 
 -- The union: of a key of both the right's value.
 unfoldable pub union-prefer-right : {K W : Type 0} → Finite K W → Finite K W → Finite K W
 union-prefer-right f g = record {
-    look = λ a. orElse (g .look a) (f .look a);
-    dom = select (λ a. not (contains f a)) (g .dom) ++ f .dom }
+  look = λ a. orElse (g .look a) (f .look a);
+  dom = select (λ a. not (contains f a)) (g .dom) ++ f .dom;
+}
 
 -- The keys of a list of pairs.
 unfoldable pub firsts : {K W : Type 0} → List (K × W) → List K

@@ -25,18 +25,19 @@ reslotted m t = record { slots = t; size = m .size; bytes = m .bytes; home = m .
 -- Homes are kept below the size; `used` above the arena is the only damage beyond the slots.
 abbrev pub plain : {K W : Type 0} → Keys K → (K → ℕ) → Store K W
 plain {K} {W} E weight = record {
-    State = Plain K W;
-    keys = E;
-    weight = weight;
-    size = λ m. m .size;
-    slots = λ m. m .slots;
-    home = λ m k. cond (ltb (m .home k) (m .size)) (m .home k) 0;
-    bytes = λ m. m .bytes;
-    sized = λ m. ltb 0 (m .size);
-    asked = λ k. 0;
-    kept = λ k. 0;
-    harmed = λ m. ltb (m .bytes) (total weight (m .slots) (m .size));
-    over = λ m i v. reslotted m (put (m .slots) i (revalued (m .slots i) v));
-    fill = λ m i k v. reslotted m (put (m .slots) i (live k v));
-    free = λ m i. reslotted m (put (m .slots) i freed);
-    wipe = λ m. reslotted m made }
+  State = Plain K W;
+  keys = E;
+  weight = weight;
+  size = λ m. m .size;
+  slots = λ m. m .slots;
+  home = λ m k. cond (ltb (m .home k) (m .size)) (m .home k) 0;
+  bytes = λ m. m .bytes;
+  sized = λ m. ltb 0 (m .size);
+  asked = λ k. 0;
+  kept = λ k. 0;
+  harmed = λ m. ltb (m .bytes) (total weight (m .slots) (m .size));
+  over = λ m i v. reslotted m (put (m .slots) i (revalued (m .slots i) v));
+  fill = λ m i k v. reslotted m (put (m .slots) i (live k v));
+  free = λ m i. reslotted m (put (m .slots) i freed);
+  wipe = λ m. reslotted m made;
+}

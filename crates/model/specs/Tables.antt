@@ -20,16 +20,17 @@ module _ {K W : Type 0} (M : Store K W) where
   -- The walk of the table x, of S slots. In the base a walk carries nothing.
   abbrev pub tables : ℕ → ℕ → Machine K W
   tables x S = record {
-      State = World M;
-      Call = ℕ × Call K W;
-      Ticket = Unit {0};
-      keys = M .keys;
-      size = S;
-      table = λ w. M .slots (w x);
-      after = λ w c. turned M w (c .0) (c .1);
-      wipes = λ w c. eqb (c .0) x && (sweeps (c .1) && not (refuses (answer M w (c .0) (c .1))));
-      ticket = λ w. tt;
-      bar = λ w q. 0 }
+    State = World M;
+    Call = ℕ × Call K W;
+    Ticket = Unit {0};
+    keys = M .keys;
+    size = S;
+    table = λ w. M .slots (w x);
+    after = λ w c. turned M w (c .0) (c .1);
+    wipes = λ w c. eqb (c .0) x && (sweeps (c .1) && not (refuses (answer M w (c .0) (c .1))));
+    ticket = λ w. tt;
+    bar = λ w q. 0;
+  }
 
   -- Tables made, or copied from such, and changed only by their own calls: all are sound, and x has S slots.
   pub record AllSound (L : Lawful M) (x S : ℕ) (w : World M) : Type 0 where
