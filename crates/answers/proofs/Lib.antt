@@ -1,2 +1,3 @@
 -- The laws of the paper's numbers.
 pub mod Told
+pub mod Equal

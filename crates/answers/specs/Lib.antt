@@ -1,3 +1,4 @@
 -- The paper's numbers of refusals and answers.
 pub mod Numbers
 pub mod Refusals
+pub mod Said

@@ -4,6 +4,28 @@ use Rattle.answers.specs.declared.Refusal.{Refusal}
 use Rattle.answers.specs.declared.Numbers.{Numbers}
 use Rattle.answers.specs.declared.Homed.{Homed}
 use Rattle.answers.specs.declared.Homed.the-variants.{At, Refused}
+use Rattle.answers.specs.declared.Outcome.{Outcome}
+use Rattle.answers.specs.declared.Outcome.the-variants as outcome
+use Rattle.answers.specs.declared.Counted.{Counted}
+use Rattle.answers.specs.declared.Counted.the-variants as counted
+use Rattle.answers.specs.declared.Emptiness.{Emptiness}
+use Rattle.answers.specs.declared.Emptiness.the-variants as emptiness
+use Rattle.answers.specs.declared.Reserved.{Reserved}
+use Rattle.answers.specs.declared.Reserved.the-variants as reserved
+use Rattle.answers.specs.declared.Got.{Got}
+use Rattle.answers.specs.declared.Got.the-variants as got
+use Rattle.answers.specs.declared.Member.{Member}
+use Rattle.answers.specs.declared.Member.the-variants as member
+use Rattle.answers.specs.declared.Contained.{Contained}
+use Rattle.answers.specs.declared.Contained.the-variants as contained
+use Rattle.answers.specs.declared.Inserted.{Inserted}
+use Rattle.answers.specs.declared.Inserted.the-variants as inserted
+use Rattle.answers.specs.declared.Added.{Added}
+use Rattle.answers.specs.declared.Added.the-variants as added
+use Rattle.answers.specs.declared.Removed.{Removed}
+use Rattle.answers.specs.declared.Removed.the-variants as removed
+use Rattle.answers.specs.declared.Dropped.{Dropped}
+use Rattle.answers.specs.declared.Dropped.the-variants as dropped
 use Rattle.answers.specs.Refusals.{numberOf}
 
 -- A refusal: its number, and zeros elsewhere.
@@ -16,3 +38,66 @@ abbrev pub homedNumbers : Homed → Numbers
 homedNumbers (At s) =
     record { refusal = 0; case = 1; key = 0; value = 0; slot = s; examined = 0; walk = 0; offset = 0; length = 0 }
 homedNumbers (Refused r) = refusalNumbers r
+
+-- Of make, clear, copy and union: case 1, done.
+unfoldable pub outcomeNumbers : Outcome → Numbers
+outcomeNumbers outcome.Done = record { refusal = 0; case = 1; key = 0; value = 0; slot = 0; examined = 0; walk = 0; offset = 0; length = 0 }
+outcomeNumbers (outcome.Refused r) = refusalNumbers r
+
+-- Of capacity and length: case 2, the count as its value.
+unfoldable pub countedNumbers : Counted → Numbers
+countedNumbers (counted.Count n) = record { refusal = 0; case = 2; key = 0; value = n; slot = 0; examined = 0; walk = 0; offset = 0; length = 0 }
+countedNumbers (counted.Refused r) = refusalNumbers r
+
+-- Of is_empty: case 3, empty, or 4, it holds keys.
+unfoldable pub emptinessNumbers : Emptiness → Numbers
+emptinessNumbers emptiness.Empty = record { refusal = 0; case = 3; key = 0; value = 0; slot = 0; examined = 0; walk = 0; offset = 0; length = 0 }
+emptinessNumbers emptiness.Holds = record { refusal = 0; case = 4; key = 0; value = 0; slot = 0; examined = 0; walk = 0; offset = 0; length = 0 }
+emptinessNumbers (emptiness.Refused r) = refusalNumbers r
+
+-- Of reserve: case 5, room.
+unfoldable pub reservedNumbers : Reserved → Numbers
+reservedNumbers reserved.Room = record { refusal = 0; case = 5; key = 0; value = 0; slot = 0; examined = 0; walk = 0; offset = 0; length = 0 }
+reservedNumbers (reserved.Refused r) = refusalNumbers r
+
+-- Of a map's get: case 6, found with value, slot and examined number, or 8, absent with examined number.
+unfoldable pub gotNumbers : Got → Numbers
+gotNumbers (got.Found v s e) = record { refusal = 0; case = 6; key = 0; value = v; slot = s; examined = e; walk = 0; offset = 0; length = 0 }
+gotNumbers (got.Absent e) = record { refusal = 0; case = 8; key = 0; value = 0; slot = 0; examined = e; walk = 0; offset = 0; length = 0 }
+gotNumbers (got.Refused r) = refusalNumbers r
+
+-- Of an integer set's get: case 6, found with key, slot and examined number, or 8, absent with examined number.
+unfoldable pub memberNumbers : Member → Numbers
+memberNumbers (member.Found k s e) = record { refusal = 0; case = 6; key = k; value = 0; slot = s; examined = e; walk = 0; offset = 0; length = 0 }
+memberNumbers (member.Absent e) = record { refusal = 0; case = 8; key = 0; value = 0; slot = 0; examined = e; walk = 0; offset = 0; length = 0 }
+memberNumbers (member.Refused r) = refusalNumbers r
+
+-- Of contains: case 7, present, or 8, absent, with examined number.
+unfoldable pub containedNumbers : Contained → Numbers
+containedNumbers (contained.Present e) = record { refusal = 0; case = 7; key = 0; value = 0; slot = 0; examined = e; walk = 0; offset = 0; length = 0 }
+containedNumbers (contained.Absent e) = record { refusal = 0; case = 8; key = 0; value = 0; slot = 0; examined = e; walk = 0; offset = 0; length = 0 }
+containedNumbers (contained.Refused r) = refusalNumbers r
+
+-- Of an integer map's insert: case 9, fresh with slot and examined number, or 10, replaced with the old value too.
+unfoldable pub insertedNumbers : Inserted → Numbers
+insertedNumbers (inserted.Fresh s e) = record { refusal = 0; case = 9; key = 0; value = 0; slot = s; examined = e; walk = 0; offset = 0; length = 0 }
+insertedNumbers (inserted.Replaced v s e) = record { refusal = 0; case = 10; key = 0; value = v; slot = s; examined = e; walk = 0; offset = 0; length = 0 }
+insertedNumbers (inserted.Refused r) = refusalNumbers r
+
+-- Of an integer set's insert: case 9, fresh, or 10, already there, with slot and examined number.
+unfoldable pub addedNumbers : Added → Numbers
+addedNumbers (added.Fresh s e) = record { refusal = 0; case = 9; key = 0; value = 0; slot = s; examined = e; walk = 0; offset = 0; length = 0 }
+addedNumbers (added.Already s e) = record { refusal = 0; case = 10; key = 0; value = 0; slot = s; examined = e; walk = 0; offset = 0; length = 0 }
+addedNumbers (added.Refused r) = refusalNumbers r
+
+-- Of a map's remove: case 11, removed with value, slot and examined number, or 8, absent with examined number.
+unfoldable pub removedNumbers : Removed → Numbers
+removedNumbers (removed.Removed v s e) = record { refusal = 0; case = 11; key = 0; value = v; slot = s; examined = e; walk = 0; offset = 0; length = 0 }
+removedNumbers (removed.Absent e) = record { refusal = 0; case = 8; key = 0; value = 0; slot = 0; examined = e; walk = 0; offset = 0; length = 0 }
+removedNumbers (removed.Refused r) = refusalNumbers r
+
+-- Of a set's remove: case 11, removed with slot and examined number, or 8, absent with examined number.
+unfoldable pub droppedNumbers : Dropped → Numbers
+droppedNumbers (dropped.Removed s e) = record { refusal = 0; case = 11; key = 0; value = 0; slot = s; examined = e; walk = 0; offset = 0; length = 0 }
+droppedNumbers (dropped.Absent e) = record { refusal = 0; case = 8; key = 0; value = 0; slot = 0; examined = e; walk = 0; offset = 0; length = 0 }
+droppedNumbers (dropped.Refused r) = refusalNumbers r

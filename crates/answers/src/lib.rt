@@ -34,6 +34,80 @@ pub enum Homed {
     Refused(Refusal),
 }
 
+// The answer of make, clear, copy and union.
+pub enum Outcome {
+    Done,
+    Refused(Refusal),
+}
+
+// The answer of capacity and length.
+pub enum Counted {
+    Count(usize),
+    Refused(Refusal),
+}
+
+// The answer of is_empty.
+pub enum Emptiness {
+    Empty,
+    Holds,
+    Refused(Refusal),
+}
+
+// The answer of reserve.
+pub enum Reserved {
+    Room,
+    Refused(Refusal),
+}
+
+// The answer of a map's get: the value, its slot and the examined number, or absent with the examined number.
+pub enum Got {
+    Found(u64, usize, usize),
+    Absent(usize),
+    Refused(Refusal),
+}
+
+// The answer of an integer set's get: the key, its slot and the examined number, or absent with the examined number.
+pub enum Member {
+    Found(u64, usize, usize),
+    Absent(usize),
+    Refused(Refusal),
+}
+
+// The answer of contains, with the examined number.
+pub enum Contained {
+    Present(usize),
+    Absent(usize),
+    Refused(Refusal),
+}
+
+// The answer of an integer map's insert: the slot and the examined number, with the old value where one was replaced.
+pub enum Inserted {
+    Fresh(usize, usize),
+    Replaced(u64, usize, usize),
+    Refused(Refusal),
+}
+
+// The answer of an integer set's insert: the slot and the examined number.
+pub enum Added {
+    Fresh(usize, usize),
+    Already(usize, usize),
+    Refused(Refusal),
+}
+
+// The answer of a map's remove: the old value, its slot and the examined number, or absent with the examined number.
+pub enum Removed {
+    Removed(u64, usize, usize),
+    Absent(usize),
+    Refused(Refusal),
+}
+
+// The answer of a set's remove: the slot and the examined number, or absent with the examined number.
+pub enum Dropped {
+    Removed(usize, usize),
+    Absent(usize),
+    Refused(Refusal),
+}
+
 // The paper's number of a refusal.
 pub fn number(r: Refusal) -> u64
     ensures { λ n. ⌜ n ≡ numberOf r ⌝ }

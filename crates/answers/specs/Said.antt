@@ -1,0 +1,78 @@
+-- The paper's numbers of what the calls of the theory say: a refusal's number and zeros elsewhere, or the numbers of its case.
+-- Assumes nothing.
+use Prim.Native.Nat.{ℕ}
+use mathlib.Core.Bool.{cond}
+use lib.Dec.{eqb}
+use Rattle.model.specs.Calls.{Or, no, ok, Seen, found, absent, Spot, occupied, vacant}
+use Rattle.answers.specs.declared.Numbers.{Numbers}
+
+-- A refusal by its number.
+abbrev pub saidNo : ℕ → Numbers
+saidNo n = record { refusal = n; case = 0; key = 0; value = 0; slot = 0; examined = 0; walk = 0; offset = 0; length = 0 }
+
+-- A case with what it carries.
+abbrev pub saidCase : ℕ → ℕ → ℕ → ℕ → ℕ → Numbers
+saidCase c k v s e =
+    record { refusal = 0; case = c; key = k; value = v; slot = s; examined = e; walk = 0; offset = 0; length = 0 }
+
+-- make, clear, copy and union: done.
+unfoldable pub doneSaid : {A : Type 0} → Or A → Numbers
+doneSaid (no n) = saidNo n
+doneSaid (ok a) = saidCase 1 0 0 0 0
+
+-- capacity and length: the count.
+unfoldable pub countSaid : Or ℕ → Numbers
+countSaid (no n) = saidNo n
+countSaid (ok x) = saidCase 2 0 x 0 0
+
+-- is_empty: empty where the length is 0.
+unfoldable pub emptySaid : Or ℕ → Numbers
+emptySaid (no n) = saidNo n
+emptySaid (ok x) = cond (eqb x 0) (saidCase 3 0 0 0 0) (saidCase 4 0 0 0 0)
+
+-- reserve: room.
+unfoldable pub roomSaid : {A : Type 0} → Or A → Numbers
+roomSaid (no n) = saidNo n
+roomSaid (ok a) = saidCase 5 0 0 0 0
+
+-- A map's get: found or absent.
+unfoldable pub gotSaid : Or (Seen ℕ) → Numbers
+gotSaid (no n) = saidNo n
+gotSaid (ok (found v s e)) = saidCase 6 0 v s e
+gotSaid (ok (absent e)) = saidCase 8 0 0 0 e
+
+-- An integer set's get of the key k: found or absent.
+unfoldable pub memberSaid : {W : Type 0} → ℕ → Or (Seen W) → Numbers
+memberSaid k (no n) = saidNo n
+memberSaid k (ok (found v s e)) = saidCase 6 k 0 s e
+memberSaid k (ok (absent e)) = saidCase 8 0 0 0 e
+
+-- contains: present or absent.
+unfoldable pub containedSaid : {W : Type 0} → Or (Seen W) → Numbers
+containedSaid (no n) = saidNo n
+containedSaid (ok (found v s e)) = saidCase 7 0 0 0 e
+containedSaid (ok (absent e)) = saidCase 8 0 0 0 e
+
+-- An integer map's insert: fresh or replaced.
+unfoldable pub insertedSaid : Or (Spot ℕ) → Numbers
+insertedSaid (no n) = saidNo n
+insertedSaid (ok (vacant s e)) = saidCase 9 0 0 s e
+insertedSaid (ok (occupied s v e)) = saidCase 10 0 v s e
+
+-- An integer set's insert: fresh or already there.
+unfoldable pub addedSaid : {W : Type 0} → Or (Spot W) → Numbers
+addedSaid (no n) = saidNo n
+addedSaid (ok (vacant s e)) = saidCase 9 0 0 s e
+addedSaid (ok (occupied s v e)) = saidCase 10 0 0 s e
+
+-- A map's remove: removed or absent.
+unfoldable pub removedSaid : Or (Seen ℕ) → Numbers
+removedSaid (no n) = saidNo n
+removedSaid (ok (found v s e)) = saidCase 11 0 v s e
+removedSaid (ok (absent e)) = saidCase 8 0 0 0 e
+
+-- A set's remove: removed or absent.
+unfoldable pub droppedSaid : {W : Type 0} → Or (Seen W) → Numbers
+droppedSaid (no n) = saidNo n
+droppedSaid (ok (found v s e)) = saidCase 11 0 0 s e
+droppedSaid (ok (absent e)) = saidCase 8 0 0 0 e
