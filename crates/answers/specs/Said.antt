@@ -4,6 +4,7 @@ use Prim.Native.Nat.{ℕ}
 use mathlib.Core.Bool.{cond}
 use lib.Dec.{eqb}
 use Rattle.model.specs.Calls.{Or, no, ok, Seen, found, absent, Spot, occupied, vacant}
+use Rattle.model.specs.Walk.{Paced, pair, nothing, done}
 use Rattle.answers.specs.declared.Numbers.{Numbers}
 
 -- A refusal by its number.
@@ -76,3 +77,14 @@ unfoldable pub droppedSaid : {W : Type 0} → Or (Seen W) → Numbers
 droppedSaid (no n) = saidNo n
 droppedSaid (ok (found v s e)) = saidCase 11 0 0 s e
 droppedSaid (ok (absent e)) = saidCase 8 0 0 0 e
+
+-- A walk's step of an integer map from w: the pair, nothing or done, with the walk moved on; a refusal with the walk as it came.
+unfoldable pub stepSaid : ℕ → Or (Paced ℕ ℕ) → Numbers
+stepSaid w (no n) =
+    record { refusal = n; case = 0; key = 0; value = 0; slot = 0; examined = 0; walk = w; offset = 0; length = 0 }
+stepSaid w (ok (pair k v x e)) =
+    record { refusal = 0; case = 14; key = k; value = v; slot = 0; examined = e; walk = x; offset = 0; length = 0 }
+stepSaid w (ok (nothing x e)) =
+    record { refusal = 0; case = 15; key = 0; value = 0; slot = 0; examined = e; walk = x; offset = 0; length = 0 }
+stepSaid w (ok (done x)) =
+    record { refusal = 0; case = 16; key = 0; value = 0; slot = 0; examined = 0; walk = x; offset = 0; length = 0 }
