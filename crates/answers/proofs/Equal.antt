@@ -1,7 +1,6 @@
 -- Equal numbers are equal answers, for each answer that is declared here. Assumes nothing.
 use mathlib.Core.Path.{_≡_, refl, ap}
 use native.Mathlib.Omega.{arith}
-use Rattle.answers.specs.declared.Numbers.{Numbers}
 use Rattle.answers.specs.declared.Outcome.{Outcome}
 use Rattle.answers.specs.declared.Outcome.the-variants as outcome
 use Rattle.answers.specs.declared.Counted.{Counted}

@@ -2,7 +2,6 @@
 use Prim.Native.Nat.{_-_}
 use mathlib.Core.Path.{refl}
 use borrow.Author.Needs.{needs}
-use Rattle.arrays.specs.Whole.{copied}
 use Rattle.arrays.proofs.Below.{Below, below-none, below-more, copied-all, copied-not}
 use Rattle.arrays.proofs.copy_words.Statement.{statement}
 use Rattle.arrays.proofs.copy_words.Tie as tie

@@ -1,0 +1,82 @@
+-- What the probing of a key says of get, remove and entry, on any memory: the laws that every call of a map or a set cites.
+use Prim.Native.Nat.{ℕ, _<_}
+use mathlib.Core.Bool.{Bool, true, false}
+use mathlib.Core.Path.{_≡_, refl, sym, _∙_}
+use native.Mathlib.Omega.{arith}
+use mathlib.Core.List.{List}
+use borrow.Author.Tests.{eq-eqb, ne-eqb}
+use lib.Dec.{eqb}
+use lib.ListN.{length}
+use Rattle.model.specs.Store.{Store}
+use Rattle.answers.specs.declared.Refusal.the-variants.{Sizes}
+use Rattle.model.specs.Calls.{no, need, get, entry, remove}
+use Rattle.model.proofs.Cases.{by-bool}
+use Rattle.ints.specs.declared.Probed.{Probed}
+use Rattle.ints.specs.declared.Probed.the-variants.{Hit, Free, Refused}
+use Rattle.ints.specs.Columns.{Column, values}
+use Rattle.ints.specs.Memory.{Cells, cells, fitting, memory}
+use Rattle.ints.specs.Probing.{probing}
+use Rattle.ints.specs.Seeking.{seeking, fittingMap, seekingMap}
+use Rattle.ints.proofs.Bridge.{seenOf, spotOf, sized-is, sized-short, get-probing, remove-probing, entry-probing, hit-slot, free-slot}
+
+module _ {K W : Type 0} (M : Store K W) (m : M .State) (k : K) (e : M .sized m ≡ false) where
+  get-unsized : get M m k ≡ no 1
+  unfolding get need
+  get-unsized = rw e
+
+  remove-unsized : remove M m k ≡ no 1
+  unfolding remove need
+  remove-unsized = rw e
+
+  entry-unsized : entry M m k ≡ no 1
+  unfolding entry need
+  entry-unsized = rw e
+
+module _ {W : Type 0} (C : Column W) (m : Cells C) (k : ℕ) where
+  by-long : {A : Type 0} (a : A) (f : Probed → A) → (seeking C m k ≡ probing (m .marks) (m .keys) k → C .long (m .words) (length (m .marks)) ≡ true → a ≡ f (seeking C m k)) → (cells C .sized m ≡ false → a ≡ f (Refused Sizes)) → a ≡ f (seeking C m k)
+  unfolding seeking
+  by-long a f long short = by-bool (C .long (m .words) (length (m .marks))) (λ e. long (rw e) e) (λ e. rw e (short (sized-short C m e)))
+
+  -- get, remove and entry by what the probing found
+  pub get-seeking : get (cells C) m k ≡ seenOf (C .read (m .words)) (seeking C m k)
+  get-seeking = by-long (get (cells C) m k) (seenOf (C .read (m .words))) (λ p e. get-probing C m k p refl e) (λ e. get-unsized (cells C) m k e)
+
+  pub remove-seeking : remove (cells C) m k ≡ seenOf (C .read (m .words)) (seeking C m k)
+  remove-seeking = by-long (remove (cells C) m k) (seenOf (C .read (m .words))) (λ p e. remove-probing C m k p refl e) (λ e. remove-unsized (cells C) m k e)
+
+  pub entry-seeking : entry (cells C) m k ≡ spotOf (C .read (m .words)) (seeking C m k)
+  entry-seeking = by-long (entry (cells C) m k) (spotOf (C .read (m .words))) (λ p e. entry-probing C m k p refl e) (λ e. entry-unsized (cells C) m k e)
+
+  -- a slot that the probing answers is one of the table's
+  module _ {r : Probed} (p : r ≡ seeking C m k) where
+    sought : (r ≡ Refused Sizes → ⊥) → (r ≡ probing (m .marks) (m .keys) k) × (C .long (m .words) (length (m .marks)) ≡ true)
+    unfolding seeking
+    sought h = by-bool (C .long (m .words) (length (m .marks))) (λ e. (p ∙ (rw e), e)) (λ e. absurd (h (p ∙ (rw e))))
+
+    pub sought-hit : {s e : ℕ} → r ≡ Hit s e → (s < length (m .marks)) × (length (m .keys) ≡ length (m .marks)) × (C .long (m .words) (length (m .marks)) ≡ true)
+    sought-hit q =
+        let (x, l) = sought (λ z. let y : _≡_ {A = ℕ} 0 1 = cc in omega arith) in
+        let (a, b) = hit-slot (m .marks) (m .keys) k x q in (a, b, l)
+
+    pub sought-free : {s e : ℕ} → r ≡ Free s e → (s < length (m .marks)) × (length (m .keys) ≡ length (m .marks)) × (C .long (m .words) (length (m .marks)) ≡ true)
+    sought-free q =
+        let (x, l) = sought (λ z. let y : _≡_ {A = ℕ} 0 1 = cc in omega arith) in
+        let (a, b) = free-slot (m .marks) (m .keys) k x q in (a, b, l)
+
+-- a map's sizes and the probing in it, from its own tests
+module _ (marks keys vs : List ℕ) where
+  pub map-fits-more : {b : Bool} → b ≡ fitting marks keys → b ≡ true → eqb (length marks) (length vs) ≡ fittingMap marks keys vs
+  unfolding fittingMap
+  map-fits-more p q = sym (sized-is values (memory marks keys vs) ∙ (rw (← p, q)))
+
+  pub map-fits-not : {b : Bool} → b ≡ fitting marks keys → b ≡ false → false ≡ fittingMap marks keys vs
+  unfolding fittingMap
+  map-fits-not p q = sym (sized-is values (memory marks keys vs) ∙ (rw (← p, q)))
+
+  pub seek-long : (k : ℕ) {r : Probed} → length marks ≡ length vs → r ≡ probing marks keys k → r ≡ seekingMap marks keys vs k
+  unfolding seekingMap seeking
+  seek-long k e p = rw (eq-eqb (length marks) (length vs) e) p
+
+  pub seek-short : (k : ℕ) → (length marks ≡ length vs → ⊥) → Refused Sizes ≡ seekingMap marks keys vs k
+  unfolding seekingMap seeking
+  seek-short k h = rw (ne-eqb (length marks) (length vs) h)

@@ -1,0 +1,52 @@
+-- `ints::scan` meets its contract. The loop's invariant: no damage so far, and so many live. The measure is what is left of the length.
+use Prim.Native.Nat.{_-_}
+use lib.ListN.{length}
+use borrow.Author.Needs.{needs}
+use Rattle.ints.proofs.Marks.{Scanning, scan-start, scan-bad, scan-on, scan-end}
+use Rattle.ints.proofs.scan.Statement.{statement}
+use Rattle.ints.proofs.scan.Tie as tie
+
+abbrev Inv-loop : tie.InvT-loop
+Inv-loop marks live₀ i₀ live i = Scanning marks live i
+
+abbrev μ-loop : tie.MeasureT-loop
+μ-loop marks live₀ i₀ live i = length marks - i
+
+loop-holds : tie.Need-loop-holds Inv-loop μ-loop
+loop-holds c = scan-start _
+
+shared-slice-read-mark : tie.Need-shared-slice-read-mark Inv-loop μ-loop
+shared-slice-read-mark c = search needs
+
+returns : tie.Need-returns Inv-loop μ-loop
+returns c = scan-bad _ _ (c .before .before .loop-test .taken) (c .if1 .taken)
+
+count-mark-requires : tie.Need-count-mark-requires Inv-loop μ-loop
+count-mark-requires c κs = search needs
+
+add-i : tie.Need-add-i Inv-loop μ-loop
+add-i c = search needs
+
+loop-less : tie.Need-loop-less Inv-loop μ-loop
+loop-less c = search needs
+
+loop-again : tie.Need-loop-again Inv-loop μ-loop
+loop-again c = scan-on (c .before .before .before .before .loop .inv) (c .before .before .before .loop-test .taken) (c .before .if1 .left) (c .count-mark .ensures)
+
+returns-2 : tie.Need-returns-2 Inv-loop μ-loop
+returns-2 c = scan-end (c .before .loop .inv) (c .loop-test .left)
+
+pub scan-spec : {M : Type 1} → statement M
+scan-spec =
+    tie.close
+    (tie.spec
+    Inv-loop
+    μ-loop
+    loop-holds
+    shared-slice-read-mark
+    returns
+    count-mark-requires
+    add-i
+    loop-less
+    loop-again
+    returns-2)

@@ -1,0 +1,6 @@
+-- The definitions of integer tables.
+pub mod Columns
+pub mod Memory
+pub mod Probing
+pub mod Scanning
+pub mod Seeking

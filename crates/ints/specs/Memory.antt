@@ -1,0 +1,57 @@
+-- The lent lists of an integer table as one record, what its slots hold, and the store that they are.
+use Prim.Native.Nat.{ℕ, zero, suc}
+use mathlib.Core.Bool.{Bool, false, _&&_}
+use mathlib.Core.List.{List}
+use borrow.Author.Tests.{eqb-true, eq-eqb}
+use mathlib.Core.Path.{refl, sym}
+use lib.Dec.{eqb}
+use lib.ListN.{length, getD, set, replicate}
+use Rattle.model.specs.Slots.{Slot, never, freed, bad, live, Keys}
+use Rattle.model.specs.Store.{Store}
+use Rattle.digest.specs.Home.{homeOfWord, slotsFit}
+use Rattle.ints.specs.Columns.{Column, values}
+
+-- Marks, keys, and what stands beside the keys.
+pub record Cells {W : Type 0} (C : Column W) : Type 0 where
+  pub marks : List ℕ
+  pub keys : List ℕ
+  pub words : C .Words
+
+-- What a slot with this mark, key and value holds: mark 0 never used, 1 live, 2 freed, any other damaged.
+unfoldable pub cell : {W : Type 0} → ℕ → ℕ → W → Slot ℕ W
+cell zero k v = never
+cell (suc zero) k v = live k v
+cell (suc (suc zero)) k v = freed
+cell (suc (suc (suc m))) k v = bad
+
+-- Integer keys are equal as numbers.
+abbrev pub integers : Keys ℕ
+integers = record { same = λ a b. eqb b a; right = λ a b e. sym (eqb-true b a e); self = λ a. eq-eqb a a refl }
+
+-- An integer table as a store. Keys take no arena bytes and have no refusal of their own; a storing call examines its path alone.
+abbrev pub cells : {W : Type 0} (C : Column W) → Store ℕ W
+cells C = record {
+  State = Cells C;
+  keys = integers;
+  weight = λ k. 0;
+  size = λ m. length (m .marks);
+  slots = λ m i. cell (getD (m .marks) i 0) (getD (m .keys) i 0) (C .read (m .words) i);
+  home = λ m k. homeOfWord 0 (length (m .marks)) k;
+  bytes = λ m. 0;
+  sized = λ m. slotsFit (length (m .marks)) && (eqb (length (m .marks)) (length (m .keys)) && C .long (m .words) (length (m .marks)));
+  asked = λ k. 0;
+  kept = λ k. 0;
+  harmed = λ m. false;
+  over = λ m i v. record { marks = m .marks; keys = m .keys; words = C .write (m .words) i v };
+  fill = λ m i k v. record { marks = set (m .marks) i 1; keys = set (m .keys) i k; words = C .write (m .words) i v };
+  free = λ m i. record { marks = set (m .marks) i 2; keys = set (m .keys) i 0; words = C .blank (m .words) i };
+  wipe = λ m. record { marks = replicate (length (m .marks)) 0; keys = replicate (length (m .keys)) 0; words = C .wipe (m .words) };
+}
+
+-- Marks and keys agree in length, and a table may have so many slots.
+unfoldable pub fitting : List ℕ → List ℕ → Bool
+fitting marks keys = slotsFit (length marks) && eqb (length marks) (length keys)
+
+-- The lent lists of a map.
+abbrev pub memory : List ℕ → List ℕ → List ℕ → Cells values
+memory marks keys vs = record { marks = marks; keys = keys; words = vs }
