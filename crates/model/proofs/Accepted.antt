@@ -1,15 +1,14 @@
 -- What an accepted call tells, on any memory: its tests passed, and where its slot is.
-use Prim.Native.Nat.{ℕ, zero, suc, _+_, _-_, _≤_, _<_}
-use mathlib.Core.Bool.{Bool, true, false, cond, not}
-use mathlib.Core.Path.{_≡_, refl, sym, _∙_, ap, subst}
+use Prim.Native.Nat.{ℕ, zero, suc, _-_, _≤_, _<_}
+use mathlib.Core.Bool.{Bool, true, false, not}
+use mathlib.Core.Path.{_≡_, refl, sym, _∙_, ap}
 use native.Mathlib.Omega.{arith}
 use borrow.Author.Tests.{ltb-true, leb-true, eqb-true}
 use lib.Dec.{ltb, leb, eqb}
-use Rattle.model.specs.Slots.{Slot, never, freed, bad, live, Keys}
+use Rattle.model.specs.Slots.{Slot, never, freed, bad, live}
 use Rattle.model.specs.Path.{Find, hit, miss, hurt}
 use Rattle.model.specs.Store.{Store, path, slotAt, used}
 use Rattle.model.specs.Calls.{Or, no, ok, need, pass, Seen, found, absent, Spot, occupied, vacant, seenBy, spotBy, entry, remove, gripOn, grip, occupied-get, occupied-remove, goodFor, vacancy}
-use Rattle.model.proofs.Cases.{by-bool}
 
 module _ {A : Type 0} where
   pub need-ok : (b : Bool) (n : ℕ) (a : Or A) (x : A) → need b n a ≡ ok x → (b ≡ true) × (a ≡ ok x)

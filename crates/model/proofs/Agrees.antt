@@ -1,25 +1,24 @@
 -- On a sound memory each call on one table answers as its map, its room and its handle's goodness say, and leaves the map they name.
 use Prim.Native.Nat.{ℕ, zero, suc, _+_, _-_, _≤_, _<_}
-use mathlib.Core.Bool.{Bool, true, false, cond, not}
-use mathlib.Core.List.{List, [], _∷_}
-use mathlib.Core.Path.{_≡_, refl, sym, _∙_, ap, subst}
-use mathlib.Core.Option.{Option, none, some}
+use mathlib.Core.Bool.{cond, not}
+use mathlib.Core.Path.{_≡_, refl, sym, _∙_, ap}
+use mathlib.Core.Option.{some}
 use native.Mathlib.Omega.{arith}
-use borrow.Author.Tests.{lt-ltb, le-ltb, le-leb, lt-leb, leb-true, leb-false, eq-eqb}
+use borrow.Author.Tests.{le-leb, lt-leb, leb-true, leb-false}
 use lib.Dec.{ltb, leb, eqb}
-use Rattle.model.specs.Slots.{Slot, never, freed, bad, live, Keys, holds}
-use Rattle.model.specs.Path.{Find, hit, miss, hurt, freeAt}
-use Rattle.model.specs.Finite.{Finite, isSome, contains, mass, len, empty, insert, remove}
-use Rattle.model.specs.Store.{Store, path, slotAt, pathLength, live-count, used, hurtful}
-use Rattle.model.specs.Calls.{Or, no, ok, need, pass, give, Seen, found, absent, Spot, occupied, vacant, Handle, on-occupied, on-vacant, seenBy, spotBy, get, entry, storedBy, after-insert, removedBy, after-remove, acted, capacity, after-make, length, reserve, gripOn, grip, occupied-get, after-set, occupied-remove, after-drop, goodFor, vacancy, vacant-insert, after-fill, or-insert, after-or-insert, insert-entry, after-insert-entry}
+use Rattle.model.specs.Slots.{Slot, never, freed, bad, live, holds}
+use Rattle.model.specs.Path.{freeAt}
+use Rattle.model.specs.Finite.{Finite, isSome, contains, mass, len, remove}
+use Rattle.model.specs.Store.{Store, path, slotAt, live-count, used, hurtful}
+use Rattle.model.specs.Calls.{Or, ok, need, pass, give, on-occupied, on-vacant, seenBy, spotBy, get, entry, capacity, length, reserve, gripOn, grip, occupied-get, occupied-remove, goodFor, vacancy, vacant-insert, or-insert, insert-entry}
 use Rattle.model.specs.Calls
-use Rattle.model.specs.Machine.{Own, makes, clears, capacities, lens, empties, reserves, gets, contains-keys, removes, entries, inserts, occupied-gets, occupied-removes, occupied-sets, vacant-inserts, or-inserts, insert-entries, Answer, refused, fine, number, truth, seen, spot, value, report, tells, leaves}
-use Rattle.model.specs.Demand2.{plain, refuses, Room, barred, seenOf, spotOf, heldOf, admit, grown, due, grows, renews, grips, spotIs, opens, roomOf}
-use Rattle.model.specs.Lawful.{Lawful, Healthy, Shows}
+use Rattle.model.specs.Machine.{Own, makes, clears, capacities, lens, empties, reserves, gets, contains-keys, removes, entries, inserts, occupied-gets, occupied-removes, occupied-sets, vacant-inserts, or-inserts, insert-entries, Answer, refused, seen, spot, value, report, tells}
+use Rattle.model.specs.Demand2.{plain, barred, seenOf, spotOf, heldOf, admit, grown, due, grips, spotIs, opens, roomOf}
+use Rattle.model.specs.Lawful.{Lawful, Shows}
 use Rattle.model.proofs.Cases.{by-bool, by-lt, by-same}
-use Rattle.model.proofs.Slots.{count-high, holds-value, holds-live}
+use Rattle.model.proofs.Slots.{count-high}
 use Rattle.model.proofs.Sound.{sound-look}
-use Rattle.model.proofs.Shows.{shows-wipe, shows-total, shows-over, shows-free, shows-fill, PathOf, here, gone, path-of, free-room, room-free, shows-unhurt, shows-unharmed, home-below}
+use Rattle.model.proofs.Shows.{shows-total, PathOf, here, gone, path-of, free-room, room-free, shows-unhurt, shows-unharmed, home-below}
 
 module _ {A K W : Type 0} (say : A → Answer K W) where
   plain-pass : (n : ℕ) (a : Or A) (b : Answer K W) → plain (report say a) ≡ b → plain (report say (pass n a)) ≡ barred n b
@@ -79,14 +78,6 @@ module _ {K W : Type 0} (M : Store K W) (L : Lawful M) (m : M .State) (f : Finit
           (λ l x. by-lt (live-count M m) (M .size m)
           (λ c y. let z : ⊥ = omega (arith, room-free M L m f s k p c) in absurd z)
           (λ c y. rw (p, e, x, lt-leb (1 + mass (λ k. 1) (f .dom)) (M .size m) (omega (arith, live-len)))))
-
-  -- a good handle's slot is live with the key
-  grips-live : (i : ℕ) (k : K) → grips M m i k ≡ true → (i < M .size m) × (v : W) × (M .slots m i ≡ live k v) × (f .look k ≡ some v)
-  unfolding grips
-  grips-live i k e = by-lt i (M .size m)
-      (λ l x. let (v, q) = holds-value (M .keys) k (M .slots m i) (rw x at e) in
-      (l, v, q, sym (s .looks k) ∙ sound-look (M .keys) (M .size m) (M .home m) (home-below M L m (s .healthy)) (M .slots m) (s .healthy .sound) k i v l q))
-      (λ l x. let z : _≡_ {A = Bool} false true = rw x at e in let y : _≡_ {A = ℕ} 0 1 = cc in absurd (omega arith))
 
   -- an occupied handle: its value where it is good, 6 where it is not
   grip-agrees : (i : ℕ) (k : K) → plain (report {K = K} value (grip M m i k)) ≡ cond (grips M m i k) (heldOf (f .look k)) (refused 6)

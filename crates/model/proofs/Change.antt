@@ -1,16 +1,16 @@
 -- What a changed slot does to the map of a sound table: only the changed key is looked up differently.
-use Prim.Native.Nat.{ℕ, zero, suc, _+_, _-_, _≤_, _<_}
-use mathlib.Core.Bool.{Bool, true, false, cond}
-use mathlib.Core.Path.{_≡_, refl, sym, _∙_, ap, ap₂, subst}
-use mathlib.Core.Option.{Option, none, some}
+use Prim.Native.Nat.{ℕ, zero, suc, _<_}
+use mathlib.Core.Bool.{true, false, cond}
+use mathlib.Core.Path.{_≡_, refl, sym, _∙_, ap, ap₂}
+use mathlib.Core.Option.{none, some}
 use native.Mathlib.Omega.{arith}
 use Rattle.model.specs.Slots.{Slot, never, freed, bad, live, Table, Keys, put, frees, holds, valueIn, look}
 use Rattle.model.specs.Path.{at, freeAt}
 use Rattle.model.specs.Sound.{Sound}
 use Rattle.model.proofs.Cases.{by-same}
-use Rattle.model.proofs.Slots.{put-same, put-other, by-put, lacks, value-lacks, look-none}
+use Rattle.model.proofs.Slots.{put-same, by-put, lacks, value-lacks, look-none}
 use Rattle.model.proofs.Path.{at-below, free-here}
-use Rattle.model.proofs.Sound.{sound-look, fresh-sound, replaced-sound, removed-sound}
+use Rattle.model.proofs.Sound.{sound-look, fresh-sound, replaced-sound}
 
 module _ {K W : Type 0} (E : Keys K) where
   -- a slot changed between two slots that lack the key changes nothing for it

@@ -1,22 +1,22 @@
 -- Demand 1: on any memory the answer's number is the first of the call's rows that applies, and a refused call leaves the memory as it was.
-use Prim.Native.Nat.{ℕ, zero, suc, _+_, _-_, _≤_, _<_, max}
-use mathlib.Core.Bool.{Bool, true, false, cond, not}
+use Prim.Native.Nat.{ℕ, zero, suc, _+_, _-_, _≤_, _<_}
+use mathlib.Core.Bool.{Bool, true, false, not}
 use mathlib.Core.List.{List, [], _∷_}
 use mathlib.Core.Logic.{_⊎_, inl, inr, ⊎-elim}
 use mathlib.Core.Path.{_≡_, refl, sym, _∙_, ap, subst}
 use native.Mathlib.Omega.{arith}
-use borrow.Author.Tests.{lt-ltb, ne-eqb, ltb-true, ltb-false, leb-true, leb-false, eqb-true, eqb-false, not-true, not-false}
+use borrow.Author.Tests.{lt-ltb, ne-eqb, leb-true, leb-false, eqb-true, eqb-false, not-true, not-false}
 use lib.Dec.{ltb, leb, eqb}
-use Rattle.model.specs.Slots.{Slot, never, freed, bad, live, Table, Keys, damaged}
+use Rattle.model.specs.Slots.{Slot, never, freed, bad, live, Table}
 use Rattle.model.specs.Path.{from, Find, hit, miss, hurt, at, stops, stopAt, freeAt, find, examined}
 use Rattle.model.specs.Store.{Store, path, slotAt, pathLength, live-count, used, hurtful}
-use Rattle.model.specs.Calls.{Or, no, ok, need, pass, give, Seen, found, absent, Spot, occupied, vacant, Handle, on-occupied, on-vacant, seenBy, spotBy, get, entry, remove, capacity, length, reserve, copy, needs, ruined, union, gripOn, grip, occupied-get, occupied-remove, goodFor, vacancy, vacant-insert, or-insert, insert-entry}
-use Rattle.model.specs.Walk.{Paced, pair, nothing, done, halts, halted, reachOf, paceTo, pace, step}
-use Rattle.model.specs.Machine.{Own, makes, clears, capacities, lens, empties, reserves, gets, contains-keys, removes, entries, inserts, occupied-gets, occupied-removes, occupied-sets, vacant-inserts, or-inserts, insert-entries, Call, own, copies, unions, steps, Answer, refused, fine, number, truth, seen, spot, value, paced, report, World, tells, leaves, stepping, answer, left}
-use Rattle.model.specs.Demand1.{Row, row, First, none-applies, applies-here, goes-on, Applies, Least, Rising, refusal, numberIn, BadOnPath, Absent, BadSomewhere, sized-rows, count-rows, reserve-rows, look-rows, remove-rows, place-rows, grip-rows, drop-rows, open-rows, step-rows, copy-rows, union-rows, rows}
+use Rattle.model.specs.Calls.{Or, no, ok, need, pass, give, Spot, occupied, vacant, on-occupied, on-vacant, seenBy, spotBy, get, entry, remove, capacity, length, reserve, copy, needs, ruined, union, gripOn, grip, occupied-get, occupied-remove, goodFor, vacancy, vacant-insert, or-insert, insert-entry}
+use Rattle.model.specs.Walk.{halts, halted, reachOf, paceTo, pace, step}
+use Rattle.model.specs.Machine.{Own, makes, clears, capacities, lens, empties, reserves, gets, contains-keys, removes, entries, inserts, occupied-gets, occupied-removes, occupied-sets, vacant-inserts, or-inserts, insert-entries, Call, own, copies, unions, steps, Answer, fine, number, truth, seen, spot, value, paced, report, World, tells, stepping, answer}
+use Rattle.model.specs.Demand1.{Row, row, First, none-applies, applies-here, goes-on, refusal, numberIn, BadOnPath, Absent, BadSomewhere, sized-rows, count-rows, reserve-rows, look-rows, remove-rows, place-rows, grip-rows, drop-rows, open-rows, step-rows, copy-rows, union-rows, rows}
 use Rattle.model.proofs.Cases.{by-bool, by-lt, by-eq, by-same}
 use Rattle.model.proofs.Slots.{damaged-where, damaged-bad}
-use Rattle.model.proofs.Path.{from-low, from-high, from-before, from-here, Ended, find-ended, ended-hit, ended-never, ended-round, ended-bad, examined-stop, miss-free}
+use Rattle.model.proofs.Path.{from-low, from-before, from-here, Ended, find-ended, ended-hit, ended-never, ended-round, ended-bad, examined-stop, miss-free}
 use Rattle.model.proofs.Walk.{reach-high, reach-budget}
 use Rattle.model.proofs.Demand3.{not-between}
 use Rattle.model.proofs.Sound.{no-free-full, full-no-free}
@@ -59,10 +59,10 @@ apart a b p q clash = clash (sym p ∙ q)
 
 -- a stopped path: what stands in an examined slot
 module _ {K W : Type 0} (M : Store K W) (m : M .State) (k : K) where
-  data Told : Type 0 where
+  pub data Told : Type 0 where
     told-hit : (n : ℕ) (v : W) → path M m k ≡ hit n v → (BadOnPath M m k → ⊥) → (Absent M m k → ⊥) → Told
     told-miss : (e f : ℕ) → path M m k ≡ miss e f → (BadOnPath M m k → ⊥) → Absent M m k → Told
-    told-hurt : path M m k ≡ hurt → BadOnPath M m k → Told
+    told-hurt : path M m k ≡ hurt → BadOnPath M m k → Absent M m k → Told
 
   abbrev last : ℕ
   last = stopAt (M .keys) (M .size m) (M .home m k) (M .slots m) k
@@ -83,7 +83,7 @@ module _ {K W : Type 0} (M : Store K W) (m : M .State) (k : K) where
   unfolding pathLength examined
   last-examined l = rw (lt-ltb last (M .size m) l) (omega arith)
 
-  told : Told
+  pub told : Told
   unfolding path slotAt
   told = go (find (M .keys) (M .size m) (M .home m k) (M .slots m) k) refl (find-ended (M .keys) (M .size m) (M .home m k) (M .slots m) k)
     where
@@ -101,6 +101,7 @@ module _ {K W : Type 0} (M : Store K W) (m : M .State) (k : K) where
           (λ b. omega (arith, bad-last b .1))
           (λ j v c e. omega (arith, live-last j v c e .1))
       go r q (ended-bad n x l p) = told-hurt q (n, rw x (last-examined (omega arith)), p)
+          (λ j v c e. let f = live-last j v c e .0 in let d = ends-with x p in let z : _≡_ {A = ℕ} 0 1 = cc in omega arith)
 
 module _ {K W : Type 0} (M : Store K W) where
   hurt-somewhere : (m : M .State) → hurtful M m ≡ true → BadSomewhere M m
@@ -165,7 +166,7 @@ module _ {K W : Type 0} (M : Store K W) (homes : (m : M .State) (k : K) → M .s
       go : Told M m k → First (row 5 (BadOnPath M m k) ∷ []) (numberIn (seenBy M m k (path M m k)))
       go (told-hit n v p b a) = rw p (on b none-applies)
       go (told-miss e f p b a) = rw p (on b none-applies)
-      go (told-hurt p b) = rw p (here b)
+      go (told-hurt p b a) = rw p (here b)
 
   first-spot : (k : K) → M .sized m ≡ true → First (row 5 (BadOnPath M m k) ∷ row 7 (Absent M m k × (live-count M m ≡ M .size m)) ∷ row 8 (Absent M m k × (M .bytes m - used M m < M .weight k)) ∷ []) (numberIn (spotBy M m k (path M m k)))
   unfolding spotBy numberIn need path live-count
@@ -180,7 +181,7 @@ module _ {K W : Type 0} (M : Store K W) (homes : (m : M .State) (k : K) → M .s
           (λ y. rw y (on (λ w. omega (arith, w .1, leb-true (M .weight k) (M .bytes m - used M m) y)) none-applies))
           (λ y. rw y (here (a, leb-false (M .weight k) (M .bytes m - used M m) y))))))
           (λ l x. rw x (here (a, no-free-full (M .keys) (M .size m) (M .home m k) (homes m k z) (M .slots m) k e f p l)))))
-      go (told-hurt p b) = rw p (here b)
+      go (told-hurt p b a) = rw p (here b)
 
   first-grip : (s : ℕ) (k : K) → First (row 5 ((s < M .size m) × (M .slots m s ≡ bad)) ∷ row 6 ((v : W) → s < M .size m → M .slots m s ≡ live k v → ⊥) ∷ []) (numberIn (grip M m s k))
   unfolding grip gripOn numberIn need
@@ -228,7 +229,7 @@ module _ {K W : Type 0} (M : Store K W) (homes : (m : M .State) (k : K) → M .s
       go : Told M m k → First (vacant-rows s k) (numberIn (goodFor M s (spotBy M m k (path M m k))))
       go (told-hit n v p b a) = first-good s k b (spotBy M m k (path M m k)) q (λ h. let c : ok (occupied (slotAt M m k n) v (suc n)) ≡ no 5 = rw p at h in let z : _≡_ {A = ℕ} 0 1 = cc in omega arith)
       go (told-miss e f p b a) = first-good s k b (spotBy M m k (path M m k)) q (λ h. not-five f e k (rw p at h))
-      go (told-hurt p b) = rw p (here b)
+      go (told-hurt p b a) = rw p (here b)
 
   -- length, emptiness and reserve: some slot is damaged
   first-whole : {A : Type 0} (a : Or A) (rs : List Row) → First rs (numberIn a) → First (row 5 (BadSomewhere M m) ∷ rs) (numberIn (need (not (hurtful M m)) 5 a))
@@ -238,7 +239,7 @@ module _ {K W : Type 0} (M : Store K W) (homes : (m : M .State) (k : K) → M .s
       (λ e. f)
 
 -- where the tests before the path pass, entry is what the path says
-entry-clear : {K W : Type 0} (M : Store K W) (m : M .State) (k : K) → M .sized m ≡ true → M .kept k ≡ 0 → M .harmed m ≡ false → entry M m k ≡ spotBy M m k (path M m k)
+pub entry-clear : {K W : Type 0} (M : Store K W) (m : M .State) (k : K) → M .sized m ≡ true → M .kept k ≡ 0 → M .harmed m ≡ false → entry M m k ≡ spotBy M m k (path M m k)
 unfolding entry need pass
 entry-clear M m k z y h = rw (z, y, h)
 

@@ -1,25 +1,24 @@
 -- Demand 2: whatever the memory, any list of calls on any number of tables runs in step with finite maps.
-use Prim.Native.Nat.{ℕ, zero, suc, _+_, _-_, _≤_, _<_}
-use mathlib.Core.Bool.{Bool, true, false, cond, not}
+use Prim.Native.Nat.{ℕ, zero, suc, _-_}
+use mathlib.Core.Bool.{Bool, true, false, cond}
 use mathlib.Core.List.{List, [], _∷_}
 use mathlib.Core.Path.{_≡_, refl, sym, _∙_, ap, subst}
 use mathlib.Core.Option.{Option, none, some}
 use native.Mathlib.Omega.{arith}
-use borrow.Author.Tests.{eq-eqb, ne-eqb}
 use lib.Dec.{ltb, leb, eqb}
 use Rattle.model.specs.Slots.{live, pairs}
 use Rattle.model.specs.Path.{Find, hit, miss, hurt}
 use Rattle.model.specs.Finite.{Finite, empty, union-prefer-right}
 use Rattle.model.specs.Store.{Store, path, slotAt, pathLength, used}
-use Rattle.model.specs.Calls.{Or, no, ok, need, pass, Seen, found, absent, Spot, occupied, vacant, Handle, on-occupied, on-vacant, seenBy, spotBy, get, entry, remove, acted, capacity, after-make, copy, after-copy, storeAll, union, after-union}
-use Rattle.model.specs.Walk.{Paced, pair, nothing, done, step}
-use Rattle.model.specs.Machine.{Own, makes, clears, capacities, lens, empties, reserves, gets, contains-keys, removes, entries, inserts, occupied-gets, occupied-removes, occupied-sets, vacant-inserts, or-inserts, insert-entries, Call, own, copies, unions, steps, Answer, refused, fine, number, truth, seen, spot, value, paced, report, World, placed, tells, leaves, stepping, answer, left, turned}
-use Rattle.model.specs.Demand2.{plain, counted, refuses, due, grows, renews, mapped, joined, next, becomes, Agrees, keyOf, InStep, in-step-end, in-step-call}
-use Rattle.model.specs.Lawful.{Lawful, Healthy, Shows}
+use Rattle.model.specs.Calls.{Or, no, ok, need, pass, vacant, seenBy, spotBy, get, entry, remove, acted, capacity, after-make, copy, after-copy, storeAll, union, after-union}
+use Rattle.model.specs.Walk.{Paced, pair, step}
+use Rattle.model.specs.Machine.{Own, makes, clears, capacities, lens, empties, reserves, gets, contains-keys, removes, entries, inserts, occupied-gets, occupied-removes, occupied-sets, vacant-inserts, or-inserts, insert-entries, Call, own, copies, unions, steps, Answer, refused, fine, seen, spot, paced, report, World, placed, tells, leaves, stepping, answer, left, turned}
+use Rattle.model.specs.Demand2.{counted, refuses, grows, renews, mapped, joined, next, becomes, Agrees, keyOf, InStep, in-step-end, in-step-call}
+use Rattle.model.specs.Lawful.{Lawful, Shows}
 use Rattle.model.proofs.Cases.{by-bool, by-eq}
 use Rattle.model.proofs.Path.{hit-examined, miss-examined}
 use Rattle.model.proofs.Sound.{sound-look}
-use Rattle.model.proofs.Accepted.{need-ok, pass-ok}
+use Rattle.model.proofs.Accepted.{need-ok}
 use Rattle.model.proofs.Shows.{home-below, shows-wipe}
 use Rattle.model.proofs.Agrees.{own-agrees}
 use Rattle.model.proofs.Keeps.{by-renews, own-shows}

@@ -1,23 +1,22 @@
 -- Demand 3 over any orderly machine: by one telescoping lemma, how often a staying key was handed out and whether its slot was passed change together.
-use Prim.Native.Nat.{ℕ, zero, suc, _+_, _-_, _≤_, _<_}
+use Prim.Native.Nat.{ℕ, suc, _+_, _≤_, _<_}
 use mathlib.Core.Bool.{Bool, true, false, cond, not, _&&_}
-use mathlib.Core.List.{List, [], _∷_, _++_}
-use mathlib.Core.Path.{_≡_, refl, sym, _∙_, ap, subst}
-use mathlib.Core.Option.{Option, none, some}
+use mathlib.Core.List.{List, [], _∷_}
+use mathlib.Core.Path.{_≡_, refl, sym, _∙_, ap}
+use mathlib.Core.Option.{some}
 use native.Mathlib.Omega.{arith}
 use borrow.Author.Tests.{lt-ltb, le-ltb, le-leb, ne-eqb, not-true}
-use lib.Dec.{ltb, leb, eqb}
+use lib.Dec.{ltb, eqb}
 use Rattle.model.specs.Slots.{Slot, never, freed, bad, live, Table, Keys, look}
-use Rattle.model.specs.Finite.{isSome}
 use Rattle.model.specs.Path.{from}
 use Rattle.model.specs.Calls.{Or, no, ok, need, pass}
-use Rattle.model.specs.Walk.{Paced, pair, nothing, done, halts, halted, reachOf, paceTo, pace, step, movedBy}
+use Rattle.model.specs.Walk.{Paced, pair, halts, halted, reachOf, paceTo, pace, step, movedBy}
 use Rattle.model.specs.Demand3.{Machine, Event, steps, calls, handsOut, unrefused, has, stepped, stateAfter, walkAfter, good, times, stays, Walked, Orderly}
 use Rattle.model.proofs.Cases.{by-bool, by-lt, by-eq, by-same}
 use Rattle.model.proofs.Slots.{look-some}
 use Rattle.model.proofs.Finite.{some-is}
 use Rattle.model.proofs.Sound.{once-look}
-use Rattle.model.proofs.Walk.{Strode, strode-pair, strode-nothing, strode-done, strode, reach-low, reach-high}
+use Rattle.model.proofs.Walk.{Strode, strode-pair, strode-nothing, strode-done, strode, reach-high}
 
 both-left : (a b : Bool) → (a && b) ≡ true → a ≡ true
 both-left true b e = refl

@@ -1,14 +1,14 @@
 -- Laws of finite maps: insert, remove and union list their keys once, and the weights of a sound table's live keys are those of its map's keys.
-use Prim.Native.Nat.{ℕ, zero, suc, _+_, _-_, _≤_, _<_}
+use Prim.Native.Nat.{ℕ, zero, suc, _+_, _<_}
 use mathlib.Core.Bool.{Bool, true, false, cond, not}
 use mathlib.Core.List.{List, [], _∷_, _++_}
-use mathlib.Core.Path.{_≡_, refl, sym, _∙_, ap, subst}
+use mathlib.Core.Path.{_≡_, refl, sym, _∙_, ap}
 use mathlib.Core.Option.{Option, none, some}
 use native.Mathlib.Omega.{arith}
 use Rattle.model.specs.Slots.{Slot, never, freed, bad, live, Table, Keys, put, weigh, total, look}
 use Rattle.model.specs.Finite.{Finite, isSome, orElse, contains, member, Once, once-none, once-more, Proper, mass, select, empty, insert, remove, union-prefer-right}
-use Rattle.model.proofs.Cases.{by-bool, by-lt, by-same}
-use Rattle.model.proofs.Slots.{put-same, put-other, by-put, holds-live, look-some, look-gone, total-put}
+use Rattle.model.proofs.Cases.{by-bool, by-same}
+use Rattle.model.proofs.Slots.{by-put, holds-live, look-some, look-gone, total-put}
 use Rattle.model.proofs.Change.{removed-look}
 
 module _ {K : Type 0} (E : Keys K) where

@@ -1,19 +1,18 @@
 -- A walk with no call in between hands out the table's pairs in slot order, which are upstream's iter, keys and values.
-use Prim.Native.Nat.{ℕ, zero, suc, _+_, _-_, _≤_, _<_}
-use mathlib.Core.Bool.{Bool, true, false, cond}
+use Prim.Native.Nat.{ℕ, zero, suc, _≤_, _<_}
+use mathlib.Core.Bool.{false}
 use mathlib.Core.List.{List, [], _∷_, _++_, append-assoc, append-nil, List·Memᴰ, List·Memᴰ·head, List·Memᴰ·tail, List·Memᴰ·not-nil, List·Memᴰ·append-cases, List·Memᴰ·eq-of-singleton, Memᴰ·append-left, Memᴰ·append-right}
 use mathlib.Core.Path.{_≡_, refl, sym, _∙_, ap, subst}
-use mathlib.Core.Option.{Option, none, some}
-use mathlib.Core.Logic.{_⊎_, inl, inr, ⊎-elim}
+use mathlib.Core.Logic.{⊎-elim}
 use native.Mathlib.Omega.{arith}
 use lib.ListN.{length, length-append}
-use Rattle.model.specs.Slots.{Slot, never, freed, bad, live, Table, Keys, weigh, total, count, pairOf, pairs, look}
-use Rattle.model.specs.Finite.{isSome, member, Once, firsts, contains, finiteOf}
+use Rattle.model.specs.Slots.{Slot, never, freed, bad, live, Table, Keys, weigh, total, count, pairOf, pairs}
+use Rattle.model.specs.Finite.{firsts, contains, finiteOf}
 use Rattle.model.specs.Calls.{Or, no, ok}
-use Rattle.model.specs.Walk.{Paced, pair, nothing, done, halts, step, movedBy}
-use Rattle.model.specs.Demand3.{Machine, Event, steps, calls, pairFrom, stepped, walkAfter, handed, Orderly}
+use Rattle.model.specs.Walk.{Paced, halts, step, movedBy}
+use Rattle.model.specs.Demand3.{Machine, pairFrom, stepped, walkAfter, handed, Orderly}
 use Rattle.model.specs.Iterated.{budgets, seconds, Iterated}
-use Rattle.model.proofs.Cases.{by-bool, by-lt}
+use Rattle.model.proofs.Cases.{by-lt}
 use Rattle.model.proofs.Slots.{look-some}
 use Rattle.model.proofs.Sound.{once-look}
 use Rattle.model.proofs.Walk.{Strode, strode-pair, strode-nothing, strode-done, strode}

@@ -1,24 +1,23 @@
 -- On a sound memory each call on one table leaves a sound memory with the map that the call names, or the same memory where it is refused.
-use Prim.Native.Nat.{ℕ, zero, suc, _+_, _-_, _≤_, _<_}
-use mathlib.Core.Bool.{Bool, true, false, cond, not}
-use mathlib.Core.Path.{_≡_, refl, sym, _∙_, ap, subst}
-use mathlib.Core.Option.{Option, none, some}
+use Prim.Native.Nat.{ℕ, _<_}
+use mathlib.Core.Bool.{Bool, true, false, cond}
+use mathlib.Core.Path.{_≡_, refl, sym, _∙_, ap}
+use mathlib.Core.Option.{none}
 use native.Mathlib.Omega.{arith}
-use lib.Dec.{ltb, leb, eqb}
 use Rattle.model.specs.Slots.{live}
-use Rattle.model.specs.Path.{Find, hit, miss, hurt, freeAt}
+use Rattle.model.specs.Path.{hit, miss, freeAt}
 use Rattle.model.specs.Finite.{Finite, Proper, empty, insert, remove}
-use Rattle.model.specs.Store.{Store, path, slotAt, used}
-use Rattle.model.specs.Calls.{Or, no, ok, need, pass, give, Seen, found, absent, Spot, occupied, vacant, Handle, on-occupied, on-vacant, seenBy, spotBy, entry, storedBy, after-insert, removedBy, after-remove, acted, capacity, after-make, grip, occupied-get, after-set, occupied-remove, after-drop, goodFor, vacancy, vacant-insert, after-fill, or-insert, after-or-insert, insert-entry, after-insert-entry}
+use Rattle.model.specs.Store.{Store, path, slotAt}
+use Rattle.model.specs.Calls.{Or, no, ok, give, Seen, found, absent, Spot, occupied, vacant, on-occupied, on-vacant, spotBy, entry, storedBy, after-insert, removedBy, after-remove, acted, capacity, after-make, occupied-get, after-set, occupied-remove, after-drop, vacancy, vacant-insert, after-fill, or-insert, after-or-insert, insert-entry, after-insert-entry}
 use Rattle.model.specs.Calls
-use Rattle.model.specs.Machine.{Own, makes, clears, capacities, lens, empties, reserves, gets, contains-keys, removes, entries, inserts, occupied-gets, occupied-removes, occupied-sets, vacant-inserts, or-inserts, insert-entries, Answer, refused, fine, seen, spot, value, report, tells, leaves}
+use Rattle.model.specs.Machine.{Own, makes, clears, capacities, lens, empties, reserves, gets, contains-keys, removes, entries, inserts, occupied-gets, occupied-removes, occupied-sets, vacant-inserts, or-inserts, insert-entries, Answer, fine, seen, spot, value, report, tells, leaves}
 use Rattle.model.specs.Demand2.{refuses, grows, renews}
-use Rattle.model.specs.Lawful.{Lawful, Healthy, Shows}
+use Rattle.model.specs.Lawful.{Lawful, Shows}
 use Rattle.model.proofs.Cases.{by-same}
 use Rattle.model.proofs.Path.{miss-free, hit-at, at-below}
 use Rattle.model.proofs.Sound.{sound-gone}
 use Rattle.model.proofs.Finite.{remove-proper}
-use Rattle.model.proofs.Shows.{home-below, shows-wipe, shows-over, shows-free, shows-fill, PathOf, here, gone, path-of}
+use Rattle.model.proofs.Shows.{home-below, shows-wipe, shows-over, shows-free, shows-fill}
 use Rattle.model.proofs.Accepted.{seen-found, seen-absent, spot-occupied, spot-vacant, grip-live, good-vacant, entry-spot, remove-seen, occupied-grip, removed-grip, vacancy-good}
 
 module _ {K W : Type 0} (M : Store K W) where

@@ -1,13 +1,13 @@
 -- In the base the rows of every call stand in rising order, so the first that applies is the least number; and a refused call leaves the memory as it was.
-use Prim.Native.Nat.{ℕ, zero, suc, _+_, _-_, _≤_, _<_, max}
-use mathlib.Core.Bool.{Bool, true, false, cond, not}
-use mathlib.Core.List.{List, [], _∷_}
+use Prim.Native.Nat.{ℕ, _≤_, _<_, max}
+use mathlib.Core.Bool.{Bool, true, false}
+use mathlib.Core.List.{List, _∷_}
 use mathlib.Core.Logic.{_⊎_, inl, inr, ⊎-elim}
-use mathlib.Core.Path.{_≡_, refl, sym, _∙_, ap, subst}
+use mathlib.Core.Path.{_≡_, refl, sym, _∙_, subst}
 use native.Mathlib.Omega.{arith}
 use Rattle.model.specs.Store.{Store}
-use Rattle.model.specs.Calls.{Or, no, ok, give, Seen, Spot, Handle, on-occupied, on-vacant, entry, storedBy, after-insert, remove, removedBy, after-remove, acted, capacity, after-make, copy, after-copy, union, after-union, occupied-get, after-set, occupied-remove, after-drop, vacancy, vacant-insert, after-fill, or-insert, after-or-insert, insert-entry, after-insert-entry}
-use Rattle.model.specs.Machine.{Own, makes, clears, capacities, lens, empties, reserves, gets, contains-keys, removes, entries, inserts, occupied-gets, occupied-removes, occupied-sets, vacant-inserts, or-inserts, insert-entries, Call, own, copies, unions, steps, Answer, refused, fine, seen, spot, value, report, World, tells, leaves, answer, left}
+use Rattle.model.specs.Calls.{Or, no, ok, give, Seen, Spot, on-occupied, on-vacant, entry, storedBy, after-insert, remove, removedBy, after-remove, acted, capacity, after-make, copy, after-copy, union, after-union, occupied-get, after-set, occupied-remove, after-drop, vacancy, vacant-insert, after-fill, or-insert, after-or-insert, insert-entry, after-insert-entry}
+use Rattle.model.specs.Machine.{Own, makes, clears, capacities, lens, empties, reserves, gets, contains-keys, removes, entries, inserts, occupied-gets, occupied-removes, occupied-sets, vacant-inserts, or-inserts, insert-entries, Call, own, copies, unions, steps, Answer, fine, seen, spot, value, report, World, tells, leaves, answer, left}
 use Rattle.model.specs.Demand2.{refuses}
 use Rattle.model.specs.Demand1.{Row, row, First, none-applies, applies-here, goes-on, Applies, Least, Rising, rises-end, rises, refusal, rows}
 use Rattle.model.proofs.Demand1.{demand-1}

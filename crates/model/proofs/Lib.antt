@@ -1,3 +1,4 @@
+-- The laws of the theory; Laws has those that a manual prints.
 pub mod Cases
 pub mod Path
 pub mod Slots
@@ -18,3 +19,4 @@ pub mod Iterated
 pub mod Plain
 pub mod Demand1
 pub mod Least
+pub mod Laws

@@ -1,14 +1,13 @@
 -- Laws of lists of pairs: what inserting them all does to a map, and that a table's pairs carry its map and its totals.
-use Prim.Native.Nat.{ℕ, zero, suc, _+_, _-_, _≤_, _<_}
-use mathlib.Core.Bool.{Bool, true, false, cond}
+use Prim.Native.Nat.{ℕ, zero, suc, _+_, _≤_}
+use mathlib.Core.Bool.{cond}
 use mathlib.Core.List.{List, [], _∷_, _++_}
-use mathlib.Core.Path.{_≡_, refl, sym, _∙_, ap, subst}
+use mathlib.Core.Path.{_≡_, refl, sym, _∙_, ap}
 use mathlib.Core.Option.{Option, none, some}
 use native.Mathlib.Omega.{arith}
 use Rattle.model.specs.Slots.{Slot, never, freed, bad, live, Table, Keys, weigh, total, pairOf, pairs, valueIn, look}
-use Rattle.model.specs.Finite.{Finite, isSome, orElse, contains, Proper, mass, insert, firsts, lastIn, insertAll}
+use Rattle.model.specs.Finite.{Finite, isSome, orElse, contains, mass, insert, firsts, lastIn, insertAll}
 use Rattle.model.proofs.Cases.{by-bool}
-use Rattle.model.proofs.Finite.{insert-proper}
 
 pub orElse-assoc : {W : Type 0} (a b c : Option W) → orElse (orElse a b) c ≡ orElse a (orElse b c)
 unfolding orElse
@@ -27,11 +26,6 @@ module _ {K W : Type 0} (E : Keys K) where
   insertAll-look f (p ∷ ps) a = insertAll-look (insert E f (p .0) (p .1)) ps a
       ∙ ap (λ o. orElse (lastIn E a ps) o) (by-bool (E .same a (p .0)) (λ e. rw e) (λ e. rw e))
       ∙ sym (orElse-assoc (lastIn E a ps) (cond (E .same a (p .0)) (some (p .1)) none) (f .look a))
-
-  pub insertAll-proper : (f : Finite K W) (ps : List (K × W)) → Proper E f → Proper E (insertAll E f ps)
-  unfolding insertAll
-  insertAll-proper f [] p = p
-  insertAll-proper f (x ∷ ps) p = insertAll-proper (insert E f (x .0) (x .1)) ps (insert-proper E f (x .0) (x .1) p)
 
   lastIn-append : (a : K) (ps qs : List (K × W)) → lastIn E a (ps ++ qs) ≡ orElse (lastIn E a qs) (lastIn E a ps)
   unfolding lastIn

@@ -1,19 +1,19 @@
 -- Each write keeps a sound memory sound and changes its map as it should; the path of a sound memory is decided by its map.
-use Prim.Native.Nat.{ℕ, zero, suc, _+_, _-_, _≤_, _<_}
-use mathlib.Core.Bool.{Bool, true, false, cond}
-use mathlib.Core.Path.{_≡_, refl, sym, _∙_, ap, subst}
+use Prim.Native.Nat.{ℕ, _+_, _≤_, _<_}
+use mathlib.Core.Bool.{true, false}
+use mathlib.Core.Path.{_≡_, refl, sym, _∙_, ap}
 use mathlib.Core.Option.{Option, none, some}
 use native.Mathlib.Omega.{arith}
-use Rattle.model.specs.Slots.{Slot, freed, live, Table, Keys, put, made, holds, total, count, look}
-use Rattle.model.specs.Path.{Find, hit, miss, hurt, at, freeAt, find}
+use Rattle.model.specs.Slots.{freed, live, Table, Keys, put, made, holds, total, count, look}
+use Rattle.model.specs.Path.{hit, miss, at, freeAt}
 use Rattle.model.specs.Sound.{Sound}
 use Rattle.model.specs.Finite.{Finite, isSome, contains, Proper, mass, empty, insert, remove}
 use Rattle.model.specs.Store.{Store, path, slotAt, pathLength, live-count, used, hurtful}
 use Rattle.model.specs.Lawful.{Wrote, Lawful, Healthy, Shows}
-use Rattle.model.proofs.Cases.{by-bool, by-lt}
+use Rattle.model.proofs.Cases.{by-lt}
 use Rattle.model.proofs.Slots.{look-none, count-high, damaged-not}
-use Rattle.model.proofs.Path.{at-below, hit-at, free-here, free-high}
-use Rattle.model.proofs.Sound.{made-sound, sound-found, sound-miss, sound-look, fresh-sound, replaced-sound, removed-sound, no-free-full, full-no-free}
+use Rattle.model.proofs.Path.{at-below, hit-at, free-here}
+use Rattle.model.proofs.Sound.{made-sound, sound-found, sound-miss, fresh-sound, replaced-sound, removed-sound, no-free-full, full-no-free}
 use Rattle.model.proofs.Change.{fresh-look, replaced-look, removed-look}
 use Rattle.model.proofs.Finite.{empty-proper, insert-proper, remove-proper, total-mass}
 

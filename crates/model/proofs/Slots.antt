@@ -1,12 +1,11 @@
 -- Laws of tables and of the finite map over their live slots.
-use Prim.Native.Nat.{ℕ, zero, suc, _+_, _-_, _≤_, _<_}
-use mathlib.Core.Bool.{Bool, true, false, cond}
+use Prim.Native.Nat.{ℕ, zero, suc, _+_, _≤_, _<_}
+use mathlib.Core.Bool.{true, false}
 use mathlib.Core.Path.{_≡_, refl, sym, _∙_, ap, subst}
 use mathlib.Core.Option.{Option, none, some}
-use mathlib.Core.Logic.{_⊎_, inl, inr}
+use mathlib.Core.Logic.{_⊎_, inl, inr, ⊎-elim, _↔_}
 use native.Mathlib.Omega.{arith}
 use borrow.Author.Tests.{eq-eqb, ne-eqb}
-use lib.Dec.{eqb}
 use Rattle.model.specs.Slots.{Slot, never, freed, bad, live, Table, Keys, put, frees, hurts, holds, weigh, total, count, damaged, valueIn, look}
 use Rattle.model.proofs.Cases.{by-bool, by-lt, by-eq}
 
@@ -18,6 +17,14 @@ module _ {K W : Type 0} (t : Table K W) (i : ℕ) (s : Slot K W) where
   pub put-other : (j : ℕ) → (j ≡ i → ⊥) → put t i s j ≡ t j
   unfolding put
   put-other j h = rw (ne-eqb j i h)
+
+-- a slot is free exactly when its mark is 0 or 2
+pub frees-is : {K W : Type 0} (s : Slot K W) → (frees s ≡ true) ↔ ((s ≡ never) ⊎ (s ≡ freed))
+unfolding frees
+frees-is never = ((λ e. inl refl), (λ x. refl))
+frees-is freed = ((λ e. inr refl), (λ x. refl))
+frees-is bad = ((λ e. let z : _≡_ {A = ℕ} 0 1 = cc in absurd (omega arith)), (λ x. ⊎-elim (λ e. let z : _≡_ {A = ℕ} 0 1 = cc in absurd (omega arith)) (λ e. let z : _≡_ {A = ℕ} 0 1 = cc in absurd (omega arith)) x))
+frees-is (live a v) = ((λ e. let z : _≡_ {A = ℕ} 0 1 = cc in absurd (omega arith)), (λ x. ⊎-elim (λ e. let z : _≡_ {A = ℕ} 0 1 = cc in absurd (omega arith)) (λ e. let z : _≡_ {A = ℕ} 0 1 = cc in absurd (omega arith)) x))
 
 -- which slot a changed table has at j
 pub by-put : {K W : Type 0} {A : Type 0} (t : Table K W) (i : ℕ) (s : Slot K W) (j : ℕ) → (j ≡ i → put t i s j ≡ s → A) → ((j ≡ i → ⊥) → put t i s j ≡ t j → A) → A

@@ -1,15 +1,15 @@
 -- Laws of sound tables: the path finds what is there, and changed slots keep a table sound.
-use Prim.Native.Nat.{ℕ, zero, suc, _+_, _-_, _≤_, _<_}
-use mathlib.Core.Bool.{Bool, true, false, cond}
+use Prim.Native.Nat.{ℕ, _≤_, _<_}
+use mathlib.Core.Bool.{Bool, true, false}
 use mathlib.Core.Path.{_≡_, refl, sym, _∙_, ap, subst}
 use mathlib.Core.Option.{Option, none, some}
 use native.Mathlib.Omega.{arith}
-use Rattle.model.specs.Slots.{Slot, never, freed, bad, live, Table, Keys, put, made, frees, holds, weigh, count, damaged, look}
+use Rattle.model.specs.Slots.{Slot, never, freed, bad, live, Table, Keys, put, made, frees, weigh, count, look}
 use Rattle.model.specs.Path.{at, stops, Find, hit, miss, hurt, freeAt, find, examined}
 use Rattle.model.specs.Sound.{Sound}
-use Rattle.model.proofs.Cases.{by-bool, by-lt, by-eq}
-use Rattle.model.proofs.Path.{place, at-below, at-once, at-place, place-below, find-ended, ended-hit, ended-never, ended-round, ended-bad, Ended, hit-at, hurt-at, miss-round, miss-free, miss-examined, hit-examined, find-hit, free-before, free-here, free-high, free-unique, stop-before}
-use Rattle.model.proofs.Slots.{put-same, put-other, by-put, holds-live, holds-value, lacks, look-none, look-last, look-some, look-gone, count-full, full-count}
+use Rattle.model.proofs.Cases.{by-bool}
+use Rattle.model.proofs.Path.{place, at-below, at-once, at-place, place-below, hit-at, hurt-at, miss-round, miss-free, miss-examined, find-hit, free-before, free-unique, stop-before}
+use Rattle.model.proofs.Slots.{by-put, holds-live, lacks, look-last, look-some, look-gone, count-full, full-count}
 
 pub made-sound : {K W : Type 0} (S : ℕ) (home : K → ℕ) → Sound {W = W} S home made
 unfolding made

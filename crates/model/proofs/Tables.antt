@@ -1,25 +1,24 @@
 -- Demand 3 for the tables of any lawful store: every call keeps them sound, and no call but make, clear and copy moves a key.
-use Prim.Native.Nat.{ℕ, zero, suc, _+_, _-_, _≤_, _<_}
+use Prim.Native.Nat.{ℕ, zero, suc, _+_, _≤_, _<_}
 use mathlib.Core.Bool.{Bool, true, false, cond, not, _&&_}
 use mathlib.Core.List.{List, [], _∷_, _++_}
 use mathlib.Core.Path.{_≡_, refl, sym, _∙_, ap, subst}
 use mathlib.Core.Option.{Option, none, some}
 use native.Mathlib.Omega.{arith}
 use borrow.Author.Tests.{eqb-true, eq-eqb}
-use lib.Dec.{ltb, leb, eqb}
-use Rattle.model.specs.Slots.{Slot, never, freed, bad, live, Table, Keys, put, frees, holds, pairOf, pairs, look}
-use Rattle.model.specs.Sound.{Sound}
+use lib.Dec.{eqb}
+use Rattle.model.specs.Slots.{Slot, never, freed, bad, live, Table, Keys, put, frees, pairOf, pairs, look}
 use Rattle.model.specs.Finite.{Finite, isSome, contains, mass, insert, member, Once, once-none, once-more, Proper, firsts, lastIn, orElse, finiteOf}
 use Rattle.model.specs.Path.{at, freeAt}
 use Rattle.model.specs.Store.{Store, path, slotAt, used}
-use Rattle.model.specs.Calls.{Or, no, ok, Seen, found, absent, Spot, occupied, vacant, Handle, on-occupied, on-vacant, spotBy, entry, storedBy, after-insert, need, capacity, after-make, copy, after-copy, union, after-union, remove, removedBy, after-remove, acted, ruleBy, rule, storeAll, occupied-get, after-set, occupied-remove, after-drop, vacancy, after-fill, after-or-insert, after-insert-entry}
-use Rattle.model.specs.Machine.{Own, makes, clears, capacities, lens, empties, reserves, gets, contains-keys, removes, entries, inserts, occupied-gets, occupied-removes, occupied-sets, vacant-inserts, or-inserts, insert-entries, Call, own, copies, unions, steps, World, placed, Answer, fine, report, leaves, answer, left, turned}
+use Rattle.model.specs.Calls.{Or, no, ok, Seen, found, absent, Spot, occupied, vacant, on-occupied, on-vacant, spotBy, entry, storedBy, after-insert, need, capacity, after-make, copy, after-copy, union, after-union, remove, removedBy, after-remove, acted, ruleBy, rule, storeAll, occupied-get, after-set, occupied-remove, after-drop, vacancy, after-fill, after-or-insert, after-insert-entry}
+use Rattle.model.specs.Machine.{Own, makes, clears, capacities, lens, empties, reserves, gets, contains-keys, removes, entries, inserts, occupied-gets, occupied-removes, occupied-sets, vacant-inserts, or-inserts, insert-entries, Call, own, copies, unions, steps, World, placed, fine, report, leaves, answer, left, turned}
 use Rattle.model.specs.Demand2.{renews, refuses}
 use Rattle.model.specs.Demand3.{Walked, Orderly}
 use Rattle.model.specs.Tables.{sweeps, tables, AllSound}
 use Rattle.model.specs.Lawful.{Lawful, Healthy, Shows}
-use Rattle.model.proofs.Cases.{by-bool, by-lt, by-eq, by-same}
-use Rattle.model.proofs.Slots.{put-same, put-other, by-put, holds-live, look-gone, look-some}
+use Rattle.model.proofs.Cases.{by-eq, by-same}
+use Rattle.model.proofs.Slots.{by-put, look-some}
 use Rattle.model.proofs.Pairs.{last-look, lacking-less}
 use Rattle.model.proofs.Finite.{once-append, some-is, insert-mass}
 use Rattle.model.proofs.Path.{at-below, free-here}

@@ -1,24 +1,24 @@
 -- Union on a sound left: it is accepted as its map says, and then the right's pairs are all inserted.
-use Prim.Native.Nat.{ℕ, zero, suc, _+_, _-_, _≤_, _<_}
-use mathlib.Core.Bool.{Bool, true, false, cond, not}
+use Prim.Native.Nat.{ℕ, _+_, _-_, _≤_, _<_}
+use mathlib.Core.Bool.{true, false, cond, not}
 use mathlib.Core.List.{List, [], _∷_}
-use mathlib.Core.Path.{_≡_, refl, sym, _∙_, ap, subst, fun-ext}
-use mathlib.Core.Option.{Option, none, some}
+use mathlib.Core.Path.{_≡_, _∙_, ap, fun-ext}
+use mathlib.Core.Option.{none}
 use native.Mathlib.Omega.{arith}
 use borrow.Author.Tests.{lt-ltb, le-leb, lt-leb, leb-true, leb-false}
-use lib.Dec.{ltb, leb}
-use Rattle.model.specs.Slots.{live, put, frees, total, pairs, look}
-use Rattle.model.specs.Path.{Find, hit, miss, hurt, freeAt}
-use Rattle.model.specs.Finite.{Finite, isSome, orElse, contains, Proper, mass, len, insert, union-prefer-right, firsts, lastIn, insertAll}
-use Rattle.model.specs.Store.{Store, path, slotAt, pathLength, live-count, used, hurtful}
-use Rattle.model.specs.Calls.{Or, no, ok, need, ruleBy, rule, storeAll, missed, lacking, needs, ruined, union, acted, after-union}
-use Rattle.model.specs.Machine.{Answer, refused, fine, report}
-use Rattle.model.specs.Demand2.{admit, roomOf, refuses}
-use Rattle.model.specs.Lawful.{Lawful, Healthy, Shows}
-use Rattle.model.proofs.Cases.{by-bool, by-lt}
+use lib.Dec.{leb}
+use Rattle.model.specs.Slots.{live, frees, pairs, look}
+use Rattle.model.specs.Path.{miss, freeAt}
+use Rattle.model.specs.Finite.{Finite, isSome, orElse, contains, mass, len, insert, union-prefer-right, firsts, insertAll}
+use Rattle.model.specs.Store.{Store, path, slotAt, pathLength, live-count, used}
+use Rattle.model.specs.Calls.{ok, need, ruleBy, rule, storeAll, missed, lacking, needs, ruined, union, acted, after-union}
+use Rattle.model.specs.Machine.{fine, report}
+use Rattle.model.specs.Demand2.{admit, roomOf}
+use Rattle.model.specs.Lawful.{Lawful, Shows}
+use Rattle.model.proofs.Cases.{by-bool}
 use Rattle.model.proofs.Path.{at-below, free-here}
 use Rattle.model.proofs.Finite.{union-proper, union-mass, insert-mass}
-use Rattle.model.proofs.Pairs.{insertAll-look, insertAll-proper, last-look, lacking-less, total-pairs}
+use Rattle.model.proofs.Pairs.{insertAll-look, last-look, lacking-less, total-pairs}
 use Rattle.model.proofs.Shows.{home-below, shows-total, shows-over, shows-fill, PathOf, here, gone, path-of, room-free, shows-unhurt, shows-unharmed}
 use Rattle.model.proofs.Accepted.{need-ok}
 use Rattle.model.proofs.Agrees.{live-len, used-mass, len-high, used-high}

@@ -1,29 +1,31 @@
 -- Laws of a walk's step: what an unrefused one passed, and when it is refused.
-use Prim.Native.Nat.{ℕ, zero, suc, _+_, _-_, _≤_, _<_}
-use mathlib.Core.Bool.{Bool, true, false, cond, not}
-use mathlib.Core.Path.{_≡_, refl, sym, _∙_, ap, subst}
+use Prim.Native.Nat.{ℕ, suc, _+_, _-_, _≤_, _<_, min}
+use mathlib.Core.Bool.{true, false, not}
+use mathlib.Core.Path.{_≡_, refl}
 use native.Mathlib.Omega.{arith}
-use borrow.Author.Tests.{ltb-true, leb-true, le-leb, eqb-false, not-true}
-use lib.Dec.{ltb, leb, eqb}
+use borrow.Author.Tests.{leb-true, leb-false, eqb-false, not-true}
+use lib.Dec.{leb, eqb}
 use Rattle.model.specs.Slots.{Slot, never, freed, bad, live, Table}
 use Rattle.model.specs.Path.{from}
-use Rattle.model.specs.Calls.{Or, no, ok, need, pass}
-use Rattle.model.specs.Walk.{Paced, pair, nothing, done, halts, halted, reachOf, paceTo, pace, step, movedBy}
+use Rattle.model.specs.Calls.{ok}
+use Rattle.model.specs.Walk.{Paced, pair, nothing, done, halts, halted, reachOf, paceTo, pace, step}
 use Rattle.model.proofs.Cases.{by-bool, by-lt, by-eq}
-use Rattle.model.proofs.Path.{from-low, from-high, from-before, from-here}
+use Rattle.model.proofs.Path.{from-low, from-before, from-here}
 use Rattle.model.proofs.Accepted.{need-ok, pass-ok}
 
-pub reach-low : (S w b : ℕ) → 0 < b → w < S → 0 < reachOf S w b
+-- a step's reach: its budget, and no more than there are slots
+pub reach-is : (S w b : ℕ) → reachOf S w b ≡ min b (S - w)
 unfolding reachOf
-reach-low S w b l h = by-bool (leb b (S - w)) (λ e. rw e l) (λ e. rw e (omega arith))
+reach-is S w b = by-bool (leb b (S - w)) (λ e. rw e (omega (arith, leb-true b (S - w) e))) (λ e. rw e (omega (arith, leb-false b (S - w) e)))
+
+pub reach-low : (S w b : ℕ) → 0 < b → w < S → 0 < reachOf S w b
+reach-low S w b l h = omega (arith, reach-is S w b)
 
 pub reach-high : (S w b : ℕ) → reachOf S w b ≤ S - w
-unfolding reachOf
-reach-high S w b = by-bool (leb b (S - w)) (λ e. rw e (leb-true b (S - w) e)) (λ e. rw e (omega arith))
+reach-high S w b = omega (arith, reach-is S w b)
 
 pub reach-budget : (S w b : ℕ) → reachOf S w b ≤ b
-unfolding reachOf
-reach-budget S w b = by-lt b (S - w) (λ l x. rw (le-leb b (S - w) (omega arith)) (omega arith)) (λ l x. by-bool (leb b (S - w)) (λ e. rw e (omega arith)) (λ e. rw e l))
+reach-budget S w b = omega (arith, reach-is S w b)
 
 budget-low : (b : ℕ) → not (eqb b 0) ≡ true → 0 < b
 budget-low b e = by-lt 0 b (λ l x. l) (λ l x. absurd (eqb-false b 0 (not-true (eqb b 0) e) (omega arith)))
@@ -32,10 +34,10 @@ by-below : {w S : ℕ} → w ≤ S → (w ≡ S → ⊥) → w < S
 by-below {w} {S} l q = by-lt w S (λ c x. c) (λ c x. absurd (q (omega arith)))
 
 module _ {K W : Type 0} (S : ℕ) (t : Table K W) (w : ℕ) where
-  -- what an unrefused step found: a live slot and none before it; none within its reach; or the walk's end
+  -- what an unrefused step found: a live slot and none before it; none within b slots or up to S; or the walk's end
   pub data Strode (b : ℕ) (a : Paced K W) : Type 0 where
     strode-pair : (j : ℕ) (k : K) (v : W) → w ≤ j → j < S → suc j - w ≤ b → t j ≡ live k v → ((i : ℕ) → w ≤ i → i < j → halts (t i) ≡ false) → a ≡ pair k v (suc j) (suc j - w) → Strode b a
-    strode-nothing : (x : ℕ) → w < x → x ≤ S → x - w ≤ b → ((i : ℕ) → w ≤ i → i < x → halts (t i) ≡ false) → a ≡ nothing x (x - w) → Strode b a
+    strode-nothing : (x : ℕ) → w < x → x ≤ S → x ≡ min (w + b) S → ((i : ℕ) → w ≤ i → i < x → halts (t i) ≡ false) → a ≡ nothing x (x - w) → Strode b a
     strode-done : w ≡ S → a ≡ done S → Strode b a
 
   halted-at : (j : ℕ) (s : Slot K W) (a : Paced K W) → halts s ≡ true → halted w j s ≡ ok a → (k : K) × (v : W) × (s ≡ live k v) × (a ≡ pair k v (suc j) (suc j - w))
@@ -57,7 +59,7 @@ module _ {K W : Type 0} (S : ℕ) (t : Table K W) (w : ℕ) where
       (λ c p.
       let r : ok (nothing (w + reachOf S w b) (reachOf S w b)) ≡ ok a = rw p at e in
       let d : w + reachOf S w b - w ≡ reachOf S w b = omega arith in
-      strode-nothing (w + reachOf S w b) (omega (arith, reach-low S w b h l)) (omega arith) (omega (arith, reach-budget S w b)) (λ i x y. from-before (λ i. halts (t i)) (reachOf S w b) w i x (omega arith)) (rw d (cc)))
+      strode-nothing (w + reachOf S w b) (omega (arith, reach-low S w b h l)) (omega arith) (omega (arith, reach-is S w b)) (λ i x y. from-before (λ i. halts (t i)) (reachOf S w b) w i x (omega arith)) (rw d (cc)))
 
   pub strode : (bar b : ℕ) (a : Paced K W) → step S t bar w b ≡ ok a → Strode b a
   unfolding step pace paceTo

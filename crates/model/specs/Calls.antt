@@ -63,12 +63,13 @@ module _ {K W : Type 0} (M : Store K W) where
   unfoldable pub entry : M .State → K → Or (Spot W)
   entry m k = need (M .sized m) 1 (pass (M .kept k) (need (not (M .harmed m)) 5 (spotBy m k (path M m k))))
 
-  -- insert: the key's value changes in its slot, or the first free slot of the path takes the key.
+  -- insert: key on the path, only its value changes, in that slot; otherwise the first free slot of the path takes it.
   unfoldable pub storedBy : M .State → K → W → Or (Spot W) → M .State
   storedBy m k v (no n) = m
   storedBy m k v (ok (occupied s w e)) = M .over m s v
   storedBy m k v (ok (vacant s e)) = M .fill m s k v
 
+  -- The memory after insert: as its answer says.
   unfoldable pub after-insert : M .State → K → W → M .State
   after-insert m k v = storedBy m k v (entry m k)
 
@@ -76,11 +77,13 @@ module _ {K W : Type 0} (M : Store K W) where
   unfoldable pub remove : M .State → K → Or (Seen W)
   remove m k = need (M .sized m) 1 (pass (M .asked k) (need (not (M .harmed m)) 5 (seenBy m k (path M m k))))
 
+  -- What remove leaves: the found slot freed, else all as it was.
   unfoldable pub removedBy : M .State → Or (Seen W) → M .State
   removedBy m (no n) = m
   removedBy m (ok (found v s e)) = M .free m s
   removedBy m (ok (absent e)) = m
 
+  -- The memory after remove.
   unfoldable pub after-remove : M .State → K → M .State
   after-remove m k = removedBy m (remove m k)
 
@@ -89,10 +92,11 @@ module _ {K W : Type 0} (M : Store K W) where
   acted m (no n) x = m
   acted m (ok a) x = x
 
-  -- make, clear and capacity examine no slot; capacity is S, and the other two wipe.
+  -- capacity is S; like make and clear it examines no slot.
   unfoldable pub capacity : M .State → Or ℕ
   capacity m = need (M .sized m) 1 (ok (M .size m))
 
+  -- The memory after make and clear: all marks, words and arena bytes 0.
   unfoldable pub after-make : M .State → M .State
   after-make m = acted m (capacity m) (M .wipe m)
 
@@ -104,10 +108,11 @@ module _ {K W : Type 0} (M : Store K W) where
   unfoldable pub reserve : M .State → ℕ → Or (Unit {0})
   reserve m n = need (M .sized m) 1 (need (not (hurtful M m)) 5 (need (leb n (M .size m - live-count M m)) 7 (ok tt)))
 
-  -- copy from n onto m wants right and equal sizes, and examines nothing; every slot and byte becomes n's.
+  -- copy from n onto m wants right and equal sizes, and examines nothing.
   unfoldable pub copy : M .State → M .State → Or (Unit {0})
   copy m n = need (M .sized m) 1 (need (M .sized n) 1 (need (eqb (M .size m) (M .size n)) 1 (need (eqb (M .bytes m) (M .bytes n)) 1 (ok tt))))
 
+  -- The memory after copy: equal to its source in every slot and byte.
   unfoldable pub after-copy : M .State → M .State → M .State
   after-copy m n = acted m (copy m n) n
 
@@ -117,6 +122,7 @@ module _ {K W : Type 0} (M : Store K W) where
   ruleBy m k v (miss e f) = cond (ltb f (M .size m)) (M .fill m (slotAt M m k f) k v) m
   ruleBy m k v hurt = m
 
+  -- The insert rule by the key's path.
   unfoldable pub rule : M .State → K → W → M .State
   rule m k v = ruleBy m k v (path M m k)
 
@@ -125,12 +131,13 @@ module _ {K W : Type 0} (M : Store K W) where
   storeAll m [] = m
   storeAll m (p ∷ ps) = storeAll (rule m (p .0) (p .1)) ps
 
-  -- A key is absent by its path.
+  -- Whether a path ended without the key.
   unfoldable pub missed : Find W → Bool
   missed (hit n v) = false
   missed (miss e f) = true
   missed hurt = true
 
+  -- Whether a key is absent by its path.
   unfoldable pub lacking : M .State → K → Bool
   lacking m k = missed (path M m k)
 
@@ -161,6 +168,7 @@ module _ {K W : Type 0} (M : Store K W) where
   gripOn k bad = no 5
   gripOn k (live a v) = need (M .keys .same k a) 6 (ok v)
 
+  -- An occupied handle examines its slot, none if it is S or above.
   unfoldable pub grip : M .State → ℕ → K → Or W
   grip m s k = need (ltb s (M .size m)) 6 (gripOn k (M .slots m s))
 
@@ -168,6 +176,7 @@ module _ {K W : Type 0} (M : Store K W) where
   unfoldable pub occupied-get : M .State → ℕ → K → Or W
   occupied-get m s k = need (M .sized m) 1 (pass (M .asked k) (grip m s k))
 
+  -- The memory after an occupied handle's set: the value in its slot changed.
   unfoldable pub after-set : M .State → ℕ → K → W → M .State
   after-set m s k v = acted m (occupied-get m s k) (M .over m s v)
 
@@ -175,6 +184,7 @@ module _ {K W : Type 0} (M : Store K W) where
   unfoldable pub occupied-remove : M .State → ℕ → K → Or W
   occupied-remove m s k = need (M .sized m) 1 (pass (M .asked k) (need (not (M .harmed m)) 5 (grip m s k)))
 
+  -- The memory after an occupied handle's remove: its slot freed.
   unfoldable pub after-drop : M .State → ℕ → K → M .State
   after-drop m s k = acted m (occupied-remove m s k) (M .free m s)
 
@@ -184,6 +194,7 @@ module _ {K W : Type 0} (M : Store K W) where
   goodFor s (ok (occupied x w e)) = no 6
   goodFor s (ok (vacant x e)) = need (eqb s x) 6 (ok tt)
 
+  -- A vacant handle's tests, in order; it examines the path, as insert does.
   unfoldable pub vacancy : M .State → ℕ → K → Or (Unit {0})
   vacancy m s k = need (M .sized m) 1 (pass (M .kept k) (need (not (M .harmed m)) 5 (goodFor s (spotBy m k (path M m k)))))
 
@@ -191,6 +202,7 @@ module _ {K W : Type 0} (M : Store K W) where
   unfoldable pub vacant-insert : M .State → ℕ → K → W → Or W
   vacant-insert m s k v = give v (vacancy m s k)
 
+  -- The memory after a vacant handle's insert: its slot taken by the key.
   unfoldable pub after-fill : M .State → ℕ → K → W → M .State
   after-fill m s k v = acted m (vacancy m s k) (M .fill m s k v)
 
@@ -199,6 +211,7 @@ module _ {K W : Type 0} (M : Store K W) where
   or-insert m (on-occupied s) k v = occupied-get m s k
   or-insert m (on-vacant s) k v = vacant-insert m s k v
 
+  -- The memory after or_insert.
   unfoldable pub after-or-insert : M .State → Handle → K → W → M .State
   after-or-insert m (on-occupied s) k v = m
   after-or-insert m (on-vacant s) k v = after-fill m s k v
@@ -208,6 +221,7 @@ module _ {K W : Type 0} (M : Store K W) where
   insert-entry m (on-occupied s) k v = give v (occupied-get m s k)
   insert-entry m (on-vacant s) k v = vacant-insert m s k v
 
+  -- The memory after insert_entry.
   unfoldable pub after-insert-entry : M .State → Handle → K → W → M .State
   after-insert-entry m (on-occupied s) k v = after-set m s k v
   after-insert-entry m (on-vacant s) k v = after-fill m s k v

@@ -1,6 +1,6 @@
 -- Demand 1: document 01's refusal table, call by call and row by row, on any memory.
-use Prim.Native.Nat.{ℕ, zero, suc, _+_, _-_, _≤_, _<_, max}
-use mathlib.Core.Bool.{Bool, true, false}
+use Prim.Native.Nat.{ℕ, _+_, _-_, _≤_, _<_, max}
+use mathlib.Core.Bool.{true, false}
 use mathlib.Core.List.{List, [], _∷_}
 use mathlib.Core.Logic.{_⊎_}
 use mathlib.Core.Path.{_≡_}
@@ -68,10 +68,11 @@ module _ {K W : Type 0} (M : Store K W) where
     abbrev sizes : Row
     sizes = row 1 (M .sized m ≡ false)
 
-    -- 2: the key is too long; for keys asked for and keys to be stored.
+    -- 2: the key is too long, for a key asked for.
     abbrev asked-key : K → Row
     asked-key k = row (M .asked k) (M .asked k ≡ 0 → ⊥)
 
+    -- The same for a key to be stored.
     abbrev kept-key : K → Row
     kept-key k = row (M .kept k) (M .kept k ≡ 0 → ⊥)
 
@@ -95,6 +96,7 @@ module _ {K W : Type 0} (M : Store K W) where
     abbrev stored-damage : K → Row
     stored-damage k = row 5 ((M .harmed m ≡ true) ⊎ BadOnPath k)
 
+    -- remove: the key asked for, and the damage that storing calls find.
     abbrev pub remove-rows : K → List Row
     remove-rows k = sizes ∷ asked-key k ∷ stored-damage k ∷ []
 
@@ -137,10 +139,12 @@ module _ {K W : Type 0} (M : Store K W) where
       ∷ row 7 (M .size l - live-count M l < needs M (λ k. 1) l r)
       ∷ row 8 (M .bytes l - used M l < needs M (M .weight) l r) ∷ []
 
+  -- or_insert and insert_entry: by the kind of their handle.
   abbrev handle-rows : M .State → Handle → K → List Row
   handle-rows m (on-occupied s) k = grip-rows m s k
   handle-rows m (on-vacant s) k = open-rows m s k
 
+  -- The rows of a call on one table.
   abbrev own-rows : M .State → Own K W → List Row
   own-rows m makes = sized-rows m
   own-rows m clears = sized-rows m

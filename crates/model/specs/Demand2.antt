@@ -8,8 +8,8 @@ use lib.Dec.{leb, ltb, eqb}
 use Rattle.model.specs.Slots.{holds}
 use Rattle.model.specs.Finite.{Finite, contains, mass, len, empty, insert, remove, union-prefer-right}
 use Rattle.model.specs.Store.{Store, path, pathLength}
-use Rattle.model.specs.Calls.{Or, no, ok, Seen, found, absent, Spot, occupied, vacant, Handle, on-occupied, on-vacant, spotBy}
-use Rattle.model.specs.Walk.{Paced, pair}
+use Rattle.model.specs.Calls.{Or, no, ok, found, absent, Spot, occupied, vacant, on-occupied, on-vacant, spotBy}
+use Rattle.model.specs.Walk.{pair}
 use Rattle.model.specs.Machine.{Own, makes, clears, capacities, lens, empties, reserves, gets, contains-keys, removes, entries, inserts, occupied-gets, occupied-removes, occupied-sets, vacant-inserts, or-inserts, insert-entries, Call, own, copies, unions, steps, Answer, refused, fine, number, truth, seen, spot, value, paced, World, placed, answer, turned}
 use Rattle.model.specs.Lawful.{Lawful, Shows}
 
@@ -60,15 +60,17 @@ unfoldable pub barred : {K W : Type 0} → ℕ → Answer K W → Answer K W
 barred zero a = a
 barred (suc n) a = refused (suc n)
 
--- What a map says of a key: to a lookup, to insert and entry, and to a handle that is good.
+-- What a map says of a key to a lookup: found with its value, or absent.
 unfoldable pub seenOf : {K W : Type 0} → Option W → Answer K W
 seenOf none = seen (absent 0)
 seenOf (some v) = seen (found v 0 0)
 
+-- To insert and entry: occupied with its value, or vacant.
 unfoldable pub spotOf : {K W : Type 0} → Option W → Answer K W
 spotOf none = spot (vacant 0 0)
 spotOf (some v) = spot (occupied 0 v 0)
 
+-- To an occupied handle that is good: its value.
 unfoldable pub heldOf : {K W : Type 0} → Option W → Answer K W
 heldOf none = refused 6
 heldOf (some v) = value v
@@ -145,16 +147,18 @@ module _ {K W : Type 0} (M : Store K W) where
   renews (or-inserts h k v) = false
   renews (insert-entries h k v) = false
 
-  -- What is known of a table after an accepted call: nothing where its map was not known, or where it took in an unknown one.
+  -- What is known of a table after an accepted call on it alone: nothing where its map was not known.
   unfoldable pub mapped : (Finite K W → Finite K W) → Option (Finite K W) → Option (Finite K W)
   mapped u none = none
   mapped u (some f) = some (u f)
 
+  -- After an accepted union: the union of the two maps, where both were known.
   unfoldable pub joined : Option (Finite K W) → Option (Finite K W) → Option (Finite K W)
   joined none o = none
   joined (some f) none = none
   joined (some f) (some g) = some (union-prefer-right f g)
 
+  -- After any accepted call.
   unfoldable pub next : (ℕ → Option (Finite K W)) → ℕ → Call K W → Option (Finite K W)
   next e x (own c) = cond (renews c) (some empty) (mapped (grows c) (e x))
   next e x (copies y) = e y
@@ -165,18 +169,21 @@ module _ {K W : Type 0} (M : Store K W) where
   unfoldable pub becomes : World M → (ℕ → Option (Finite K W)) → ℕ → Call K W → ℕ → Option (Finite K W)
   becomes w e x c = placed e x (cond (refuses (answer M w x c)) (e x) (next e x c))
 
-  -- An occupied handle is good where its slot is live and holds the key; a vacant one where insert would use its slot.
+  -- Whether an occupied handle is good: its slot is live and holds the key.
   unfoldable pub grips : M .State → ℕ → K → Bool
   grips m s k = cond (ltb s (M .size m)) (holds (M .keys) k (M .slots m s)) false
 
+  -- Whether insert would use the slot s.
   unfoldable pub spotIs : ℕ → Or (Spot W) → Bool
   spotIs s (no n) = false
   spotIs s (ok (occupied x v e)) = false
   spotIs s (ok (vacant x e)) = eqb s x
 
+  -- Whether a vacant handle is good for the key.
   unfoldable pub opens : M .State → ℕ → K → Bool
   opens m s k = spotIs s (spotBy M m k (path M m k))
 
+  -- The room of a memory.
   abbrev pub roomOf : M .State → Room
   roomOf m = record { slots = M .size m; bytes = M .bytes m }
 

@@ -1,8 +1,8 @@
 -- Demand 3: a walk of a table, stepped with any calls in between, over any machine whose states have a table.
-use Prim.Native.Nat.{ℕ, zero, suc, _+_, _≤_, _<_}
+use Prim.Native.Nat.{ℕ, _+_, _≤_, _<_}
 use mathlib.Core.Bool.{Bool, true, false, cond, not, _&&_}
 use mathlib.Core.List.{List, [], _∷_, _++_}
-use mathlib.Core.Option.{Option, none, some}
+use mathlib.Core.Option.{some}
 use mathlib.Core.Path.{_≡_}
 use Rattle.model.specs.Slots.{Table, Keys, bad, live, look}
 use Rattle.model.specs.Finite.{isSome}

@@ -1,9 +1,8 @@
 -- What a store owes, so that every promise about its calls follows: each write changes the slots as it should, and keeps the memory good.
 use Prim.Native.Nat.{ℕ, _+_, _≤_, _<_}
-use mathlib.Core.Bool.{Bool, true, false}
+use mathlib.Core.Bool.{true, false}
 use mathlib.Core.Path.{_≡_}
-use mathlib.Core.Option.{Option}
-use Rattle.model.specs.Slots.{Slot, freed, live, Table, put, made, frees, look}
+use Rattle.model.specs.Slots.{freed, live, Table, put, made, frees, look}
 use Rattle.model.specs.Sound.{Sound}
 use Rattle.model.specs.Store.{Store, used}
 use Rattle.model.specs.Finite.{Finite, Proper}
@@ -17,16 +16,23 @@ pub record Wrote {K W : Type 0} (M : Store K W) (Good : M .State → Type 0) (m 
   pub sized : M .sized n ≡ M .sized m
   pub good : Good n
 
+-- The debts of a store, as its fields say.
 pub record Lawful {K W : Type 0} (M : Store K W) : Type 1 where
   -- what soundness asks of the memory beyond its slots
   pub Good : M .State → Type 0
+  -- a home slot is below S
   pub homes : (m : M .State) (k : K) → M .sized m ≡ true → M .home m k < M .size m
-  -- a sound memory is not refused for damage, and its live keys fit the arena
+  -- a sound memory is not refused for damage
   pub unharmed : (m : M .State) → M .sized m ≡ true → Good m → Sound (M .size m) (M .home m) (M .slots m) → M .harmed m ≡ false
+  -- the live keys fit the arena
   pub within : (m : M .State) → M .sized m ≡ true → Good m → used M m ≤ M .bytes m
+  -- over changes the value of a live slot, and nothing else
   pub over-wrote : (m : M .State) (i : ℕ) (k : K) (v w : W) → M .sized m ≡ true → Good m → i < M .size m → M .slots m i ≡ live k w → Wrote M Good m (M .over m i v) (put (M .slots m) i (live k v))
+  -- fill makes a free slot live with the key and the value, where the key's bytes fit
   pub fill-wrote : (m : M .State) (i : ℕ) (k : K) (v : W) → M .sized m ≡ true → Good m → i < M .size m → frees (M .slots m i) ≡ true → used M m + M .weight k ≤ M .bytes m → Wrote M Good m (M .fill m i k v) (put (M .slots m) i (live k v))
+  -- free gives a live slot mark 2
   pub free-wrote : (m : M .State) (i : ℕ) (k : K) (w : W) → M .sized m ≡ true → Good m → i < M .size m → M .slots m i ≡ live k w → Wrote M Good m (M .free m i) (put (M .slots m) i freed)
+  -- wipe gives every slot mark 0
   pub wipe-wrote : (m : M .State) → M .sized m ≡ true → Wrote M Good m (M .wipe m) made
 
 -- A sound memory: right sizes, good, and sound slots.

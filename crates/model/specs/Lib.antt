@@ -1,3 +1,4 @@
+-- The definitions of the theory, in reading order.
 pub mod Slots
 pub mod Path
 pub mod Sound

@@ -1,9 +1,9 @@
 -- The published calls as one alphabet: what each answers and leaves, over tables by their numbers.
 use Prim.Native.Nat.{ℕ}
-use mathlib.Core.Bool.{Bool, true, false, cond}
+use mathlib.Core.Bool.{Bool, cond}
 use lib.Dec.{eqb}
 use Rattle.model.specs.Store.{Store}
-use Rattle.model.specs.Calls.{Or, no, ok, need, Seen, found, absent, Spot, occupied, vacant, Handle, get, entry, after-insert, remove, after-remove, capacity, after-make, length, reserve, copy, after-copy, union, after-union, occupied-get, after-set, occupied-remove, after-drop, vacant-insert, after-fill, or-insert, after-or-insert, insert-entry, after-insert-entry}
+use Rattle.model.specs.Calls.{Or, no, ok, need, Seen, Spot, Handle, get, entry, after-insert, remove, after-remove, capacity, after-make, length, reserve, copy, after-copy, union, after-union, occupied-get, after-set, occupied-remove, after-drop, vacant-insert, after-fill, or-insert, after-or-insert, insert-entry, after-insert-entry}
 use Rattle.model.specs.Walk.{Paced, step}
 
 -- The published calls on one table, but walk steps: one constructor for each.
@@ -91,13 +91,14 @@ module _ {K W : Type 0} (M : Store K W) where
   unfoldable pub stepping : M .State → ℕ → ℕ → Or (Paced K W)
   stepping m a b = need (M .sized m) 1 (step (M .size m) (M .slots m) 0 a b)
 
-  -- The answer of a call on the table x, and the memory of x after it.
+  -- The answer of a call on the table x.
   unfoldable pub answer : World M → ℕ → Call K W → Answer K W
   answer w x (own c) = tells (w x) c
   answer w x (copies y) = report (λ u. fine) (copy M (w x) (w y))
   answer w x (unions y) = report (λ u. fine) (union M (w x) (w y))
   answer w x (steps a b) = report paced (stepping (w x) a b)
 
+  -- The memory of the table x after a call on it.
   unfoldable pub left : World M → ℕ → Call K W → M .State
   left w x (own c) = leaves (w x) c
   left w x (copies y) = after-copy M (w x) (w y)

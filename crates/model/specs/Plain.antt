@@ -1,10 +1,11 @@
 -- Plain tables: slots with sizes and a home function, and nothing else. The simplest store, which shows that what stores owe can be had.
 use Prim.Native.Nat.{ℕ}
-use mathlib.Core.Bool.{Bool, true, false, cond}
+use mathlib.Core.Bool.{cond}
 use lib.Dec.{ltb}
 use Rattle.model.specs.Slots.{Slot, never, freed, bad, live, Table, Keys, put, made, total}
 use Rattle.model.specs.Store.{Store}
 
+-- A plain table in memory.
 pub record Plain (K W : Type 0) : Type 0 where
   pub slots : Table K W
   pub size : ℕ

@@ -4,6 +4,7 @@ use mathlib.Core.Bool.{Bool}
 use Rattle.model.specs.Slots.{Table, Keys, total, count, damaged}
 use Rattle.model.specs.Path.{Find, find, at, examined}
 
+-- A kind of table, by what is lent and how calls read and write it.
 pub record Store (K W : Type 0) : Type 1 where
   -- what is lent
   pub State : Type 0

@@ -1,10 +1,10 @@
 -- The tables of a store as a machine for demand 3: the walk is of the table x, and every call may stand in between, on any table.
 use Prim.Native.Nat.{ℕ}
-use mathlib.Core.Bool.{Bool, true, false, cond, not, _&&_}
+use mathlib.Core.Bool.{Bool, true, false, not, _&&_}
 use mathlib.Core.Path.{_≡_}
 use lib.Dec.{eqb}
 use Rattle.model.specs.Store.{Store}
-use Rattle.model.specs.Machine.{Own, Call, own, copies, unions, steps, World, answer, turned}
+use Rattle.model.specs.Machine.{Call, own, copies, unions, steps, World, answer, turned}
 use Rattle.model.specs.Demand2.{renews, refuses}
 use Rattle.model.specs.Demand3.{Machine}
 use Rattle.model.specs.Lawful.{Lawful, Healthy}

@@ -1,5 +1,5 @@
 -- A walk is a slot number. A step looks at the slots from there, within its budget.
-use Prim.Native.Nat.{ℕ, zero, suc, _+_, _-_}
+use Prim.Native.Nat.{ℕ, suc, _+_, _-_}
 use mathlib.Core.Bool.{Bool, true, false, cond, not}
 use lib.Dec.{ltb, leb, eqb}
 use Rattle.model.specs.Slots.{Slot, never, freed, bad, live, Table}

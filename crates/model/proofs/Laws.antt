@@ -1,0 +1,646 @@
+-- The laws that a manual prints: each a short statement in document 01's words, over any store, and over any lawful store where a table must be sound.
+use Prim.Native.Nat.{ℕ, zero, suc, _+_, _-_, _≤_, _<_, min}
+use mathlib.Core.Bool.{Bool, true, false, cond, not, _&&_}
+use mathlib.Core.List.{List, [], _∷_}
+use mathlib.Core.Logic.{_⊎_, inl, inr, ⊎-elim, _↔_}
+use mathlib.Core.Option.{Option, none, some}
+use mathlib.Core.Path.{_≡_, refl, sym, _∙_, ap}
+use native.Mathlib.Omega.{arith}
+use borrow.Author.Tests.{lt-ltb, leb-true, leb-false, le-leb, eqb-true, eq-eqb, not-true}
+use lib.Dec.{leb, eqb}
+use Rattle.model.specs.Slots.{never, bad, frees, live, made, pairs, look}
+use Rattle.model.specs.Path.{hit, miss, freeAt}
+use Rattle.model.specs.Finite.{Finite, isSome, contains, member, mass, len, empty, insert, remove, firsts, finiteOf}
+use Rattle.model.specs.Store.{Store, path, slotAt, pathLength, live-count, used}
+use Rattle.model.specs.Calls.{Or, no, ok, need, pass, give, Seen, found, absent, Spot, occupied, vacant, on-occupied, on-vacant, seenBy, spotBy, get, entry, storedBy, after-insert, removedBy, after-remove, acted, capacity, after-make, reserve, copy, after-copy, ruleBy, rule, storeAll, missed, lacking, needs, union, after-union, gripOn, grip, occupied-get, after-set, occupied-remove, after-drop, goodFor, vacancy, vacant-insert, after-fill, or-insert, after-or-insert, insert-entry, after-insert-entry}
+use Rattle.model.specs.Calls
+use Rattle.model.specs.Walk.{Paced, pair, nothing, done, halts, step}
+use Rattle.model.specs.Machine.{makes, clears, capacities, lens, empties, reserves, gets, contains-keys, removes, entries, inserts, occupied-gets, occupied-removes, occupied-sets, vacant-inserts, or-inserts, insert-entries, Call, own, copies, unions, steps, Answer, refused, fine, number, truth, seen, spot, value, paced, report, World, tells, leaves, stepping, answer}
+use Rattle.model.specs.Demand1.{Row, row, First, none-applies, applies-here, goes-on, Absent, BadOnPath, BadSomewhere, sized-rows, count-rows, look-rows, place-rows, grip-rows, open-rows, rows, refusal}
+use Rattle.model.specs.Demand2.{plain, refuses, renews}
+use Rattle.model.specs.Demand3.{Event, unrefused, stepped, stateAfter, walkAfter}
+use Rattle.model.specs.Tables.{sweeps, tables, AllSound}
+use Rattle.model.specs.Lawful.{Lawful, Healthy, Shows}
+use Rattle.model.proofs.Cases.{by-bool, by-lt, by-eq}
+use Rattle.model.proofs.Slots.{put-same}
+use Rattle.model.proofs.Path.{at-below, hit-at, hit-examined, miss-examined, examined-low, examined-high, free-before, free-here, free-high}
+use Rattle.model.proofs.Sound.{sound-look, no-free-full, full-no-free}
+use Rattle.model.proofs.Pairs.{total-pairs}
+use Rattle.model.proofs.Accepted.{need-ok, pass-ok, seen-found, seen-absent, spot-occupied, spot-vacant, entry-spot, grip-live, occupied-grip, removed-grip, good-vacant}
+use Rattle.model.proofs.Shows.{home-below, shows-wipe, PathOf, here, gone, path-of, free-room, shows-unharmed}
+use Rattle.model.proofs.Agrees.{live-len, used-mass, len-high, used-high, get-agrees, length-is, reserve-is}
+use Rattle.model.proofs.Keeps.{path-free, insert-shows, remove-shows, set-shows, drop-shows}
+use Rattle.model.proofs.Walk.{Strode, strode-pair, strode-nothing, strode-done, strode}
+use Rattle.model.proofs.Union.{union-shows}
+use Rattle.model.proofs.Tables.{healthy-shows, walk-kept}
+use Rattle.model.proofs.Demand1.{Told, told-hit, told-miss, told-hurt, told, entry-clear, demand-1}
+
+module _ {A : Type 0} where
+  -- a refusal is the test's own, or what stands behind it
+  need-no : (b : Bool) (n : ℕ) (a : Or A) (i : ℕ) → need b n a ≡ no i → (i ≡ n) ⊎ (a ≡ no i)
+  unfolding need
+  need-no true n a i e = inr e
+  need-no false n a i e = inl cc
+
+  pass-no : (n : ℕ) (a : Or A) (i : ℕ) → pass n a ≡ no i → (i ≡ n) ⊎ (a ≡ no i)
+  unfolding pass
+  pass-no zero a i e = inr e
+  pass-no (suc n) a i e = inl cc
+
+refused-with : {K W : Type 0} (a : Answer K W) → refuses a ≡ true → (n : ℕ) × (a ≡ refused n)
+unfolding refuses
+refused-with (refused n) e = (n, refl)
+refused-with fine e = let z : _≡_ {A = ℕ} 0 1 = cc in absurd (omega arith)
+refused-with (number x) e = let z : _≡_ {A = ℕ} 0 1 = cc in absurd (omega arith)
+refused-with (truth x) e = let z : _≡_ {A = ℕ} 0 1 = cc in absurd (omega arith)
+refused-with (seen x) e = let z : _≡_ {A = ℕ} 0 1 = cc in absurd (omega arith)
+refused-with (spot x) e = let z : _≡_ {A = ℕ} 0 1 = cc in absurd (omega arith)
+refused-with (value x) e = let z : _≡_ {A = ℕ} 0 1 = cc in absurd (omega arith)
+refused-with (paced x) e = let z : _≡_ {A = ℕ} 0 1 = cc in absurd (omega arith)
+
+-- an answer is a refusal exactly when it is a refusal's number and nothing else
+pub refuses-is : {K W : Type 0} (a : Answer K W) → (refuses a ≡ true) ↔ ((n : ℕ) × (a ≡ refused n))
+unfolding refuses
+refuses-is a = (refused-with a, λ (n, e). rw e)
+
+-- On any memory.
+module _ {K W : Type 0} (M : Store K W) where
+  -- contains looks along the same path as get, and says the same
+  pub contains-as-get : (m : M .State) (k : K) → tells M m (contains-keys k) ≡ tells M m (gets k)
+  unfolding tells
+  contains-as-get m k = refl
+
+  -- entry answers occupied or vacant, or refuses exactly as insert would
+  pub entry-as-insert : (m : M .State) (k : K) (v : W) → tells M m (entries k) ≡ tells M m (inserts k v)
+  unfolding tells
+  entry-as-insert m k v = refl
+
+  -- entry stores nothing, so that a vacant handle not used leaves all as it was
+  pub entry-stores-nothing : (m : M .State) (k : K) → leaves M m (entries k) ≡ m
+  unfolding leaves
+  entry-stores-nothing m k = refl
+
+  -- copy makes a table equal in every slot and byte
+  pub copy-equals : (m n : M .State) (u : Unit {0}) → copy M m n ≡ ok u → after-copy M m n ≡ n
+  unfolding after-copy acted
+  copy-equals m n u e = rw e
+
+  -- insert over a present key changes the value in its slot, and nothing else
+  pub insert-over : (m : M .State) (k : K) (v w : W) (i e : ℕ) → entry M m k ≡ ok (occupied i w e) → after-insert M m k v ≡ M .over m i v
+  unfolding after-insert storedBy
+  insert-over m k v w i e q = rw q
+
+  -- insert of an absent key fills the vacant slot, and nothing else
+  pub insert-fill : (m : M .State) (k : K) (v : W) (i e : ℕ) → entry M m k ≡ ok (vacant i e) → after-insert M m k v ≡ M .fill m i k v
+  unfolding after-insert storedBy
+  insert-fill m k v i e q = rw q
+
+  -- remove of a present key frees its slot, and nothing else
+  pub remove-free : (m : M .State) (k : K) (w : W) (i e : ℕ) → Calls.remove M m k ≡ ok (found w i e) → after-remove M m k ≡ M .free m i
+  unfolding after-remove removedBy
+  remove-free m k w i e q = rw q
+
+  -- remove of an absent key leaves all as it was
+  pub remove-absent : (m : M .State) (k : K) (e : ℕ) → Calls.remove M m k ≡ ok (absent e) → after-remove M m k ≡ m
+  unfolding after-remove removedBy
+  remove-absent m k e q = rw q
+
+  -- an occupied handle's set changes the value in its own slot
+  pub occupied-set-over : (m : M .State) (i : ℕ) (k : K) (v w : W) → occupied-get M m i k ≡ ok w → after-set M m i k v ≡ M .over m i v
+  unfolding after-set acted
+  occupied-set-over m i k v w q = rw q
+
+  -- an occupied handle's remove frees its own slot, also where the key stands twice
+  pub occupied-remove-free : (m : M .State) (i : ℕ) (k : K) (w : W) → occupied-remove M m i k ≡ ok w → after-drop M m i k ≡ M .free m i
+  unfolding after-drop acted
+  occupied-remove-free m i k w q = rw q
+
+  -- a lookup that says found: the slot holds the key live with that value, and it is the last of the examined slots
+  pub get-found-there : (m : M .State) (k : K) (v : W) (i e : ℕ) → get M m k ≡ ok (found v i e) → (M .slots m i ≡ live k v) × (e ≡ pathLength M m k) × ((n : ℕ) × (e ≡ suc n) × (i ≡ slotAt M m k n))
+  unfolding get path slotAt pathLength
+  get-found-there m k v i e q =
+      let (n, p, r, t) = seen-found M m k v i e (pass-ok (M .asked k) (seenBy M m k (path M m k)) (found v i e) (need-ok (M .sized m) 1 (pass (M .asked k) (seenBy M m k (path M m k))) (found v i e) q .1) .1) in
+      by n p r t
+    where
+      by : (n : ℕ) → path M m k ≡ hit n v → i ≡ slotAt M m k n → e ≡ suc n → (M .slots m i ≡ live k v) × (e ≡ pathLength M m k) × ((n : ℕ) × (e ≡ suc n) × (i ≡ slotAt M m k n))
+      by n p r t = (
+        rw r (hit-at (M .keys) (M .size m) (M .home m k) (M .slots m) k n v p .1),
+        t ∙ sym (hit-examined (M .keys) (M .size m) (M .home m k) (M .slots m) k n v p),
+        (n, t, r),
+      )
+
+  -- a lookup that says absent: no examined slot holds the key live
+  pub get-absent-there : (m : M .State) (k : K) (e : ℕ) → get M m k ≡ ok (absent e) → Absent M m k × (e ≡ pathLength M m k)
+  unfolding get path pathLength
+  get-absent-there m k e q =
+      let (f, p) = seen-absent M m k e (pass-ok (M .asked k) (seenBy M m k (path M m k)) (absent e) (need-ok (M .sized m) 1 (pass (M .asked k) (seenBy M m k (path M m k))) (absent e) q .1) .1) in
+      (missing f p (told M m k), sym (miss-examined (M .keys) (M .size m) (M .home m k) (M .slots m) k e f p))
+    where
+      missing : (f : ℕ) → path M m k ≡ miss e f → Told M m k → Absent M m k
+      missing f p (told-hit n v r b a) = let z : _≡_ {A = ℕ} 0 1 = cc in absurd (omega arith)
+      missing f p (told-miss x y r b a) = a
+      missing f p (told-hurt r b a) = a
+
+  -- an accepted insert does what the insert rule does
+  pub insert-by-rule : (m : M .State) (k : K) (v : W) (x : Spot W) → entry M m k ≡ ok x → after-insert M m k v ≡ rule M m k v
+  unfolding after-insert storedBy rule ruleBy
+  insert-by-rule m k v (occupied i w e) q = let (n, p, r, t) = spot-occupied M m k w i e (entry-spot M m k (occupied i w e) q) in by n p r
+    where
+      by : (n : ℕ) → path M m k ≡ hit n w → i ≡ slotAt M m k n → storedBy M m k v (entry M m k) ≡ ruleBy M m k v (path M m k)
+      by n p r = rw (q, p, r)
+  insert-by-rule m k v (vacant i e) q = let (f, p, r, l, u) = spot-vacant M m k i e (entry-spot M m k (vacant i e) q) in by f p r l
+    where
+      by : (f : ℕ) → path M m k ≡ miss e f → i ≡ slotAt M m k f → f < M .size m → storedBy M m k v (entry M m k) ≡ ruleBy M m k v (path M m k)
+      by f p r l = rw (q, p, r, lt-ltb f (M .size m) l)
+
+  -- an accepted union is the insert rule for each pair of the right, in the right's slot order
+  pub union-folds : (l r : M .State) (u : Unit {0}) → union M l r ≡ ok u → after-union M l r ≡ storeAll M l (pairs (M .slots r) (M .size r))
+  unfolding after-union acted
+  union-folds l r u e = rw e
+
+  -- what a union needs, by the left as it is at first: once for each live slot of the right whose key is absent by its path in the left
+  pub union-needs : (g : K → ℕ) (l r : M .State) → needs M g l r ≡ mass (λ k. cond (lacking M l k) (g k) 0) (firsts (pairs (M .slots r) (M .size r)))
+  unfolding needs
+  union-needs g l r = total-pairs (λ k. cond (lacking M l k) (g k) 0) (M .slots r) (M .size r)
+
+  -- what a union calls absent is absent by its path: no examined slot holds the key live
+  pub lacking-absent : (m : M .State) (k : K) → (lacking M m k ≡ true) ↔ Absent M m k
+  unfolding lacking missed
+  lacking-absent m k = go (told M m k)
+    where
+      go : Told M m k → (lacking M m k ≡ true) ↔ Absent M m k
+      go (told-hit n v p b a) = ((λ e. let c : _≡_ {A = Bool} false true = rw p at e in let z : _≡_ {A = ℕ} 0 1 = cc in absurd (omega arith)), (λ x. absurd (a x)))
+      go (told-miss e f p b a) = ((λ x. a), (λ x. rw p))
+      go (told-hurt p b a) = ((λ x. a), (λ x. rw p))
+
+  -- a vacant slot is the first of the path with mark 0 or 2
+  pub vacant-first-free : (m : M .State) (k : K) (i e : ℕ) → entry M m k ≡ ok (vacant i e) → (n : ℕ) × (n < M .size m) × (i ≡ slotAt M m k n) × (frees (M .slots m i) ≡ true) × ((j : ℕ) → j < n → frees (M .slots m (slotAt M m k j)) ≡ false)
+  unfolding slotAt
+  vacant-first-free m k i e q =
+      let (f, p, r, l, u) = spot-vacant M m k i e (entry-spot M m k (vacant i e) q) in
+      by f r l (path-free M m k e f p)
+    where
+      by : (f : ℕ) → i ≡ slotAt M m k f → f < M .size m → f ≡ freeAt (M .size m) (M .home m k) (M .slots m) → (n : ℕ) × (n < M .size m) × (i ≡ slotAt M m k n) × (frees (M .slots m i) ≡ true) × ((j : ℕ) → j < n → frees (M .slots m (slotAt M m k j)) ≡ false)
+      by f r l y = (f, l, r, rw (r, y) (free-here (M .size m) (M .home m k) (M .slots m) (omega arith)), λ j c. free-before (M .size m) (M .home m k) (M .slots m) j (omega arith))
+
+  -- the tests of a storing call, passed
+  stored-tests : {A : Type 0} (m : M .State) (n : ℕ) (a : Or A) (x : A) → need (M .sized m) 1 (pass n (need (not (M .harmed m)) 5 a)) ≡ ok x → (M .sized m ≡ true) × (n ≡ 0) × (not (M .harmed m) ≡ true) × (a ≡ ok x)
+  stored-tests m n a x e =
+      let (z, p) = need-ok (M .sized m) 1 (pass n (need (not (M .harmed m)) 5 a)) x e in
+      let (y, q) = pass-ok n (need (not (M .harmed m)) 5 a) x p in
+      let (h, r) = need-ok (not (M .harmed m)) 5 a x q in
+      (z, y, h, r)
+
+  -- a vacant handle is good exactly when the key is absent and insert would use that slot without refusing
+  pub vacant-good : (m : M .State) (s : ℕ) (k : K) → (vacancy M m s k ≡ ok tt) ↔ ((e : ℕ) × (entry M m k ≡ ok (vacant s e)))
+  unfolding vacancy entry need pass goodFor
+  vacant-good m s k = (
+    (λ q.
+        let (z, y, h, r) = stored-tests m (M .kept k) (goodFor M s (spotBy M m k (path M m k))) tt q in
+        let (e, p) = good-vacant M m k s tt r in
+        (e, entry-clear M m k z y (not-true (M .harmed m) h) ∙ p)),
+    (λ (e, q).
+        let (z, y, h, r) = stored-tests m (M .kept k) (spotBy M m k (path M m k)) (vacant s e) q in
+        rw (z, y, h, r, eq-eqb s s refl)),
+  )
+
+  -- a good vacant handle's insert leaves what insert leaves
+  pub vacant-inserts-alike : (m : M .State) (s : ℕ) (k : K) (v : W) → vacancy M m s k ≡ ok tt → after-fill M m s k v ≡ after-insert M m k v
+  unfolding after-fill after-insert acted storedBy
+  vacant-inserts-alike m s k v q = let (e, p) = vacant-good m s k .0 q in rw (q, p)
+
+  -- and it answers the value that is now in the slot
+  pub vacant-answers : (m : M .State) (s : ℕ) (k : K) (v : W) → vacancy M m s k ≡ ok tt → vacant-insert M m s k v ≡ ok v
+  unfolding vacant-insert give
+  vacant-answers m s k v q = rw q
+
+  -- a vacant handle never answers 7 or 8: it refuses for the key, or with 6 or less
+  pub vacant-never-full : (m : M .State) (s : ℕ) (k : K) (n : ℕ) → vacancy M m s k ≡ no n → (n ≡ M .kept k) ⊎ (n ≤ 6)
+  unfolding vacancy goodFor
+  vacant-never-full m s k n q =
+      ⊎-elim (λ c. inr (omega arith))
+      (λ p. ⊎-elim (λ c. inl c)
+      (λ r. ⊎-elim (λ c. inr (omega arith)) (λ t. inr (small (spotBy M m k (path M m k)) t))
+      (need-no (not (M .harmed m)) 5 (goodFor M s (spotBy M m k (path M m k))) n r))
+      (pass-no (M .kept k) (need (not (M .harmed m)) 5 (goodFor M s (spotBy M m k (path M m k)))) n p))
+      (need-no (M .sized m) 1 (pass (M .kept k) (need (not (M .harmed m)) 5 (goodFor M s (spotBy M m k (path M m k))))) n q)
+    where
+      small : (r : Or (Spot W)) → goodFor M s r ≡ no n → n ≤ 6
+      small (no i) t = by-eq i 5
+          (λ c x. let z : _≡_ {A = Or (Unit {0})} (no 5) (no n) = rw x at t in let y : n ≡ 5 = cc in omega arith)
+          (λ c x. let z : _≡_ {A = Or (Unit {0})} (no 6) (no n) = rw x at t in let y : n ≡ 6 = cc in omega arith)
+      small (ok (occupied x w e)) t = let y : n ≡ 6 = cc in omega arith
+      small (ok (vacant x e)) t = ⊎-elim (λ c. omega arith) (λ c. let z : _≡_ {A = ℕ} 0 1 = cc in absurd (omega arith)) (need-no (eqb s x) 6 (ok (tt {0})) n t)
+
+  -- an occupied handle is good exactly when its slot is live and holds that key now; then it reads the value there
+  pub occupied-good : (m : M .State) (s : ℕ) (k : K) (v : W) → M .sized m ≡ true → M .asked k ≡ 0 → (occupied-get M m s k ≡ ok v) ↔ ((s < M .size m) × (M .slots m s ≡ live k v))
+  unfolding occupied-get need pass grip gripOn
+  occupied-good m s k v z y = ((λ e. grip-live M m k s v (occupied-grip M m k s v e)), (λ (l, q). rw (z, y, lt-ltb s (M .size m) l, q, M .keys .self k)))
+
+  -- or_insert keeps a present value
+  pub or-insert-keeps : (m : M .State) (s : ℕ) (k : K) (v w : W) → occupied-get M m s k ≡ ok w → (or-insert M m (on-occupied s) k v ≡ ok w) × (after-or-insert M m (on-occupied s) k v ≡ m)
+  unfolding or-insert after-or-insert
+  or-insert-keeps m s k v w e = (e, refl)
+
+  -- or_insert of a vacant handle is its insert
+  pub or-insert-vacant : (m : M .State) (s : ℕ) (k : K) (v : W) → (or-insert M m (on-vacant s) k v ≡ vacant-insert M m s k v) × (after-or-insert M m (on-vacant s) k v ≡ after-fill M m s k v)
+  unfolding or-insert after-or-insert
+  or-insert-vacant m s k v = (refl, refl)
+
+  -- and so is insert_entry
+  pub insert-entry-vacant : (m : M .State) (s : ℕ) (k : K) (v : W) → (insert-entry M m (on-vacant s) k v ≡ vacant-insert M m s k v) × (after-insert-entry M m (on-vacant s) k v ≡ after-fill M m s k v)
+  unfolding insert-entry after-insert-entry
+  insert-entry-vacant m s k v = (refl, refl)
+
+  -- insert_entry replaces a present value, as the occupied handle's set does
+  pub insert-entry-replaces : (m : M .State) (s : ℕ) (k : K) (v w : W) → occupied-get M m s k ≡ ok w → (insert-entry M m (on-occupied s) k v ≡ ok v) × (after-insert-entry M m (on-occupied s) k v ≡ after-set M m s k v)
+  unfolding insert-entry after-insert-entry give
+  insert-entry-replaces m s k v w e = (rw e, refl)
+
+-- On any memory of a lawful store.
+module _ {K W : Type 0} (M : Store K W) (L : Lawful M) where
+  -- making gives a sound table with no key
+  pub make-sound : (m : M .State) → M .sized m ≡ true → Shows M L (after-make M m) empty
+  unfolding after-make capacity need acted
+  make-sound m z = rw z (shows-wipe M L m z)
+
+  -- the examined number is from 1 to S
+  pub examined-range : (m : M .State) (k : K) → M .sized m ≡ true → (1 ≤ pathLength M m k) × (pathLength M m k ≤ M .size m)
+  unfolding pathLength
+  examined-range m k z = (examined-low (M .keys) (M .size m) (M .home m k) (M .slots m) k (omega (arith, L .homes m k z)), examined-high (M .keys) (M .size m) (M .home m k) (M .slots m) k)
+
+  -- no free slot on the path of an absent key is every slot live
+  pub no-free-is-full : (m : M .State) (k : K) (e f : ℕ) → M .sized m ≡ true → path M m k ≡ miss e f → (f ≡ M .size m) ↔ (live-count M m ≡ M .size m)
+  unfolding path live-count
+  no-free-is-full m k e f z q = (
+    (λ c. no-free-full (M .keys) (M .size m) (M .home m k) (L .homes m k z) (M .slots m) k e f q (omega arith)),
+    (λ c. path-free M m k e f q ∙ full-no-free (M .keys) (M .size m) (M .home m k) (L .homes m k z) (M .slots m) k c),
+  )
+
+  -- make and clear leave every mark 0
+  pub make-never : (m : M .State) (i : ℕ) → M .sized m ≡ true → M .slots (after-make M m) i ≡ never
+  unfolding after-make capacity need acted made
+  make-never m i z = rw (z, L .wipe-wrote m z .slots)
+
+  -- a union keeps a sound left sound, whatever the right
+  pub union-keeps-sound : (l r : M .State) → Healthy M L l → Healthy M L (after-union M l r)
+  unfolding after-union acted
+  union-keeps-sound l r h = go (union M l r) refl
+    where
+      go : (a : Or (Unit {0})) → union M l r ≡ a → Healthy M L (acted M l a (storeAll M l (pairs (M .slots r) (M .size r))))
+      go (no n) e = h
+      go (ok u) e = union-shows M L l r (finiteOf (M .keys) (M .slots l) (M .size l)) (healthy-shows M L l h) u e .healthy
+
+  -- a copy is sound where its source is, with the same map
+  pub copy-sound : (m n : M .State) (g : Finite K W) (u : Unit {0}) → Shows M L n g → copy M m n ≡ ok u → Shows M L (after-copy M m n) g
+  copy-sound m n g u t e = rw (copy-equals M m n u e) t
+
+-- On a sound memory that shows the map f.
+module _ {K W : Type 0} (M : Store K W) (L : Lawful M) (m : M .State) (f : Finite K W) (s : Shows M L m f) where
+  -- get says found, with the map's value, its slot, and the path's own examined number
+  pub get-found : (k : K) (v : W) → M .asked k ≡ 0 → f .look k ≡ some v → (i : ℕ) × (M .slots m i ≡ live k v) × (get M m k ≡ ok (found v i (pathLength M m k)))
+  unfolding get need pass seenBy path pathLength
+  get-found k v a e = go (path-of M L m f s k)
+    where
+      go : PathOf M L m f s k → (i : ℕ) × (M .slots m i ≡ live k v) × (get M m k ≡ ok (found v i (pathLength M m k)))
+      go (here n w p q l c) =
+          let d : w ≡ v = cc in
+          let x : suc n ≡ pathLength M m k = sym (hit-examined (M .keys) (M .size m) (M .home m k) (M .slots m) k n w p) in
+          (slotAt M m k n, c ∙ ap (λ y. live k y) d, rw (s .healthy .sized, a, p) (ap (λ y. ok (found y (slotAt M m k n) (suc n))) d ∙ ap (λ y. ok (found v (slotAt M m k n) y)) x))
+      go (gone p q) = let z : _≡_ {A = ℕ} 0 1 = cc in absurd (omega arith)
+
+  -- or absent, with that number
+  pub get-absent : (k : K) → M .asked k ≡ 0 → f .look k ≡ none → get M m k ≡ ok (absent (pathLength M m k))
+  unfolding get need pass seenBy
+  get-absent k a e = go (path-of M L m f s k)
+    where
+      go : PathOf M L m f s k → get M m k ≡ ok (absent (pathLength M m k))
+      go (here n w p q l c) = let z : _≡_ {A = ℕ} 0 1 = cc in absurd (omega arith)
+      go (gone p q) = rw (s .healthy .sized, a, p)
+
+  -- an accepted insert maps the key to the value, and nothing else
+  pub insert-map : (k : K) (v : W) (x : Spot W) → entry M m k ≡ ok x → Shows M L (after-insert M m k v) (insert (M .keys) f k v)
+  unfolding report refuses
+  insert-map k v x e = rw e at (insert-shows M L m f s k v)
+
+  -- an accepted remove takes the key out, and nothing else
+  pub remove-map : (k : K) (x : Seen W) → Calls.remove M m k ≡ ok x → Shows M L (after-remove M m k) (remove (M .keys) f k)
+  unfolding report refuses
+  remove-map k x e = rw e at (remove-shows M L m f s k)
+
+  -- where entry says vacant, the key is absent, and it stays so while the handle is not used
+  pub vacant-absent : (k : K) (i e : ℕ) → entry M m k ≡ ok (vacant i e) → f .look k ≡ none
+  vacant-absent k i e q = let (x, p, r, l, u) = spot-vacant M m k i e (entry-spot M m k (vacant i e) q) in go x p (path-of M L m f s k)
+    where
+      go : (x : ℕ) → path M m k ≡ miss e x → PathOf M L m f s k → f .look k ≡ none
+      go x p (here n w c d l t) = let z : _≡_ {A = ℕ} 0 1 = cc in absurd (omega arith)
+      go x p (gone c d) = d
+
+  -- an occupied handle reads the map's value
+  pub occupied-reads : (i : ℕ) (k : K) (v : W) → occupied-get M m i k ≡ ok v → f .look k ≡ some v
+  occupied-reads i k v e =
+      let (l, c) = grip-live M m k i v (occupied-grip M m k i v e) in
+      sym (s .looks k) ∙ sound-look (M .keys) (M .size m) (M .home m) (home-below M L m (s .healthy)) (M .slots m) (s .healthy .sound) k i v l c
+
+  -- its set maps the key to the new value
+  pub occupied-set-map : (i : ℕ) (k : K) (v w : W) → occupied-get M m i k ≡ ok w → Shows M L (after-set M m i k v) (insert (M .keys) f k v)
+  unfolding after-set acted
+  occupied-set-map i k v w e = rw e (set-shows M L m f s i k v w e)
+
+  -- and the handle then reads it
+  pub occupied-set-read : (i : ℕ) (k : K) (v w : W) → occupied-get M m i k ≡ ok w → occupied-get M (after-set M m i k v) i k ≡ ok v
+  unfolding after-set acted need occupied-get
+  occupied-set-read i k v w e =
+      let (l, c) = grip-live M m k i w (occupied-grip M m k i w e) in
+      let o = L .over-wrote m i k v w (s .healthy .sized) (s .healthy .good) l c in
+      rw e (occupied-good M (M .over m i v) i k v (o .sized ∙ s .healthy .sized) (asked-none e) .1 (rw (o .size) l, ap (λ t. t i) (o .slots) ∙ put-same (M .slots m) i (live k v)))
+    where
+      asked-none : occupied-get M m i k ≡ ok w → M .asked k ≡ 0
+      asked-none q = pass-ok (M .asked k) (grip M m i k) w (need-ok (M .sized m) 1 (pass (M .asked k) (grip M m i k)) w q .1) .0
+
+  -- its remove answers the map's value and takes the key out
+  pub occupied-remove-map : (i : ℕ) (k : K) (w : W) → occupied-remove M m i k ≡ ok w → (f .look k ≡ some w) × Shows M L (after-drop M m i k) (remove (M .keys) f k)
+  unfolding after-drop acted
+  occupied-remove-map i k w e =
+      let (l, c) = grip-live M m k i w (removed-grip M m k i w e) in
+      (sym (s .looks k) ∙ sound-look (M .keys) (M .size m) (M .home m) (home-below M L m (s .healthy)) (M .slots m) (s .healthy .sound) k i w l c, rw e (drop-shows M L m f s i k w e))
+
+  -- is_empty says whether the map has no key
+  pub is-empty-is : tells M m empties ≡ truth (eqb (len f) 0)
+  unfolding tells report
+  is-empty-is = rw (length-is M L m f s)
+
+  no-keys : (ks : List K) → mass (λ k. 1) ks ≡ 0 → (k : K) → member (M .keys) k ks ≡ false
+  unfolding mass member
+  no-keys [] e k = refl
+  no-keys (a ∷ ks) e k = absurd (omega arith)
+
+  keyless : (ks : List K) → ((k : K) → member (M .keys) k ks ≡ false) → mass (λ k. 1) ks ≡ 0
+  unfolding mass member
+  keyless [] h = refl
+  keyless (a ∷ ks) h = let c : _≡_ {A = Bool} true false = rw (M .keys .self a) at (h a) in let z : _≡_ {A = ℕ} 0 1 = cc in absurd (omega arith)
+
+  not-some : (o : Option W) → isSome o ≡ false → o ≡ none
+  unfolding isSome
+  not-some none e = refl
+  not-some (some v) e = let z : _≡_ {A = ℕ} 0 1 = cc in absurd (omega arith)
+
+  -- that is, whether the map gives no key a value
+  pub is-empty-exactly : (tells M m empties ≡ truth true) ↔ ((k : K) → f .look k ≡ none)
+  unfolding len contains isSome
+  is-empty-exactly = (
+    (λ e k. let c : _≡_ {A = Answer K W} (truth (eqb (len f) 0)) (truth true) = sym is-empty-is ∙ e in not-some (f .look k) (sym (s .proper .listed k) ∙ no-keys (f .dom) (eqb-true (len f) 0 (cc)) k)),
+    (λ h. is-empty-is ∙ ap (λ b. truth b) (eq-eqb (len f) 0 (keyless (f .dom) (λ k. s .proper .listed k ∙ ap (λ o. isSome o) (h k))))),
+  )
+
+  -- there are at most S keys
+  pub len-within : len f ≤ M .size m
+  unfolding len
+  len-within = len-high M L m f s
+
+  -- reserve answers room exactly when at least the asked number of slots are not live
+  pub reserve-exactly : (n : ℕ) → (reserve M m n ≡ ok tt) ↔ (len f + n ≤ M .size m)
+  unfolding need
+  reserve-exactly n = (
+    (λ e. omega (arith, leb-true n (M .size m - len f) (need-ok (leb n (M .size m - len f)) 7 (ok (tt {0})) tt (sym (reserve-is M L m f s n) ∙ e) .0), len-within)),
+    (λ l. reserve-is M L m f s n ∙ rw (le-leb n (M .size m - len f) (omega arith))),
+  )
+
+  -- insert and entry, by the map and the room: occupied; vacant; all slots live; or the key's bytes do not fit
+  pub data EntryOf (k : K) : Type 0 where
+    is-occupied : (i : ℕ) (v : W) → f .look k ≡ some v → M .slots m i ≡ live k v → entry M m k ≡ ok (occupied i v (pathLength M m k)) → EntryOf k
+    is-vacant : (i : ℕ) → f .look k ≡ none → len f < M .size m → mass (M .weight) (f .dom) + M .weight k ≤ M .bytes m → entry M m k ≡ ok (vacant i (pathLength M m k)) → EntryOf k
+    is-full : f .look k ≡ none → len f ≡ M .size m → entry M m k ≡ no 7 → EntryOf k
+    is-tight : f .look k ≡ none → len f < M .size m → M .bytes m < mass (M .weight) (f .dom) + M .weight k → entry M m k ≡ no 8 → EntryOf k
+
+  -- one of these four it always is, for a key that is not itself refused
+  pub entry-of : (k : K) → M .kept k ≡ 0 → EntryOf k
+  unfolding spotBy need path pathLength
+  entry-of k y = go (path-of M L m f s k)
+    where
+      told : entry M m k ≡ spotBy M m k (path M m k)
+      told = entry-clear M m k (s .healthy .sized) y (shows-unharmed M L m f s)
+
+      go : PathOf M L m f s k → EntryOf k
+      go (here n v p e l q) = is-occupied (slotAt M m k n) v e q (told ∙ rw p (ap (λ x. ok (occupied (slotAt M m k n) v x)) (sym (hit-examined (M .keys) (M .size m) (M .home m k) (M .slots m) k n v p))))
+      go (gone p e) = by-lt (freeAt (M .size m) (M .home m k) (M .slots m)) (M .size m)
+          (λ l x. let c : len f < M .size m = omega (arith, free-room M L m f s k e l, live-len M L m f s) in
+          by-bool (leb (M .weight k) (M .bytes m - used M m))
+          (λ b. is-vacant (slotAt M m k (freeAt (M .size m) (M .home m k) (M .slots m))) e c (omega (arith, leb-true (M .weight k) (M .bytes m - used M m) b, used-mass M L m f s, used-high M L m f s)) (told ∙ rw (p, x, b)))
+          (λ b. is-tight e c (omega (arith, leb-false (M .weight k) (M .bytes m - used M m) b, used-mass M L m f s, used-high M L m f s)) (told ∙ rw (p, x, b))))
+          (λ l x. is-full e (sym (live-len M L m f s) ∙ no-free-is-full M L m k (pathLength M m k) (freeAt (M .size m) (M .home m k) (M .slots m)) (s .healthy .sized) p .0 (omega (arith, free-high (M .size m) (M .home m k) (M .slots m)))) (told ∙ rw (p, x)))
+
+  -- insert is refused exactly when the key is absent and every slot is live (7), or else its bytes do not fit (8)
+  pub insert-refused : (k : K) (n : ℕ) → M .kept k ≡ 0 → (entry M m k ≡ no n) ↔ ((f .look k ≡ none) × (((n ≡ 7) × (len f ≡ M .size m)) ⊎ ((n ≡ 8) × (len f < M .size m) × (M .bytes m < mass (M .weight) (f .dom) + M .weight k))))
+  insert-refused k n y = go (entry-of k y)
+    where
+      go : EntryOf k → (entry M m k ≡ no n) ↔ ((f .look k ≡ none) × (((n ≡ 7) × (len f ≡ M .size m)) ⊎ ((n ≡ 8) × (len f < M .size m) × (M .bytes m < mass (M .weight) (f .dom) + M .weight k))))
+      go (is-occupied i v e q r) = ((λ c. let z : _≡_ {A = ℕ} 0 1 = cc in absurd (omega arith)), (λ (c, d). let z : _≡_ {A = ℕ} 0 1 = cc in absurd (omega arith)))
+      go (is-vacant i e l u r) = ((λ c. let z : _≡_ {A = ℕ} 0 1 = cc in absurd (omega arith)), (λ (c, d). absurd (⊎-elim (λ x. omega arith) (λ x. omega arith) d)))
+      go (is-full e l r) = ((λ c. (e, inl (cc, l))), (λ (c, d). ⊎-elim (λ x. r ∙ ap (λ i. no i) (sym (x .0))) (λ x. absurd (omega arith)) d))
+      go (is-tight e l u r) = ((λ c. (e, inr (cc, l, u))), (λ (c, d). ⊎-elim (λ x. absurd (omega arith)) (λ x. r ∙ ap (λ i. no i) (sym (x .0))) d))
+
+-- Get after insert and after remove, on a sound memory that shows the map f.
+module _ {K W : Type 0} (M : Store K W) (L : Lawful M) (m : M .State) (f : Finite K W) (s : Shows M L m f) (k : K) where
+  -- the same key: found with the new value
+  pub get-after-insert : (v : W) (x : Spot W) → entry M m k ≡ ok x → M .asked k ≡ 0 → (i : ℕ) × (get M (after-insert M m k v) k ≡ ok (found v i (pathLength M (after-insert M m k v) k)))
+  unfolding insert
+  get-after-insert v x e a = let (i, c, g) = get-found M L (after-insert M m k v) (insert (M .keys) f k v) (insert-map M L m f s k v x e) k v a (rw (M .keys .self k)) in (i, g)
+
+  -- every other key: as before
+  pub get-other-after-insert : (v : W) (x : Spot W) → entry M m k ≡ ok x → (a : K) → M .keys .same a k ≡ false → plain (report {K = K} seen (get M (after-insert M m k v) a)) ≡ plain (report {K = K} seen (get M m a))
+  unfolding insert
+  get-other-after-insert v x e a h = get-agrees M L (after-insert M m k v) (insert (M .keys) f k v) (insert-map M L m f s k v x e) a ∙ rw h (sym (get-agrees M L m f s a))
+
+  -- the same key: absent
+  pub get-after-remove : (x : Seen W) → Calls.remove M m k ≡ ok x → M .asked k ≡ 0 → get M (after-remove M m k) k ≡ ok (absent (pathLength M (after-remove M m k) k))
+  unfolding remove
+  get-after-remove x e a = get-absent M L (after-remove M m k) (remove (M .keys) f k) (remove-map M L m f s k x e) k a (rw (M .keys .self k))
+
+  -- every other key: as before
+  pub get-other-after-remove : (x : Seen W) → Calls.remove M m k ≡ ok x → (a : K) → M .keys .same a k ≡ false → plain (report {K = K} seen (get M (after-remove M m k) a)) ≡ plain (report {K = K} seen (get M m a))
+  unfolding remove
+  get-other-after-remove x e a h = get-agrees M L (after-remove M m k) (remove (M .keys) f k) (remove-map M L m f s k x e) a ∙ rw h (sym (get-agrees M L m f s a))
+
+-- no row of the list with the number 5 applies
+data Calm : List Row → Type 1 where
+  calm-end : Calm []
+  other-number : {n : ℕ} {P : Type 0} {rs : List Row} → (n ≡ 5 → ⊥) → Calm rs → Calm (row n P ∷ rs)
+  no-damage : {n : ℕ} {P : Type 0} {rs : List Row} → (P → ⊥) → Calm rs → Calm (row n P ∷ rs)
+
+-- the two constructors as functions, so that what is to be shown is known before its proof is read
+other : {n : ℕ} {P : Type 0} {rs : List Row} → (n ≡ 5 → ⊥) → Calm rs → Calm (row n P ∷ rs)
+other h c = other-number h c
+
+whole : {n : ℕ} {P : Type 0} {rs : List Row} → (P → ⊥) → Calm rs → Calm (row n P ∷ rs)
+whole h c = no-damage h c
+
+first-calm : {n : ℕ} {rs : List Row} → First rs n → Calm rs → n ≡ 5 → ⊥
+first-calm none-applies calm-end e = omega arith
+first-calm (applies-here p) (other-number h c) e = h e
+first-calm (applies-here p) (no-damage h c) e = h p
+first-calm (goes-on q f) (other-number h c) e = first-calm f c e
+first-calm (goes-on q f) (no-damage h c) e = first-calm f c e
+
+module _ {K W : Type 0} (M : Store K W) (L : Lawful M) (asked-else : (k : K) → M .asked k ≡ 5 → ⊥) (kept-else : (k : K) → M .kept k ≡ 5 → ⊥) where
+  module _ (m : M .State) (h : Healthy M L m) where
+    no-bad-somewhere : BadSomewhere M m → ⊥
+    no-bad-somewhere (i, l, e) = h .sound .whole i l e
+
+    no-bad-on-path : (k : K) → BadOnPath M m k → ⊥
+    unfolding pathLength slotAt
+    no-bad-on-path k (j, l, e) = h .sound .whole (slotAt M m k j) (at-below (M .size m) (M .home m k) j (home-below M L m h k) (omega (arith, examined-high (M .keys) (M .size m) (M .home m k) (M .slots m) k))) e
+
+    no-harm : M .harmed m ≡ true → ⊥
+    no-harm e = let q = L .unharmed m (h .sized) (h .good) (h .sound) in let z : _≡_ {A = ℕ} 0 1 = cc in omega arith
+
+    no-harm-on-path : (k : K) → (M .harmed m ≡ true) ⊎ BadOnPath M m k → ⊥
+    no-harm-on-path k (inl e) = no-harm e
+    no-harm-on-path k (inr b) = no-bad-on-path k b
+
+    not-bad-at : (i : ℕ) → (i < M .size m) × (M .slots m i ≡ bad) → ⊥
+    not-bad-at i (l, e) = h .sound .whole i l e
+
+    sized-calm : Calm (sized-rows M m)
+    sized-calm = other (λ e. omega arith) calm-end
+
+    count-calm : Calm (count-rows M m)
+    count-calm = other (λ e. omega arith) (whole no-bad-somewhere calm-end)
+
+    look-calm : (k : K) → Calm (look-rows M m k)
+    look-calm k = other (λ e. omega arith) (other (asked-else k) (whole (no-bad-on-path k) calm-end))
+
+    place-calm : (k : K) → Calm (place-rows M m k)
+    place-calm k = other (λ e. omega arith) (other (kept-else k) (whole (no-harm-on-path k) (other (λ e. omega arith) (other (λ e. omega arith) calm-end))))
+
+    grip-calm : (i : ℕ) (k : K) → Calm (grip-rows M m i k)
+    grip-calm i k = other (λ e. omega arith) (other (asked-else k) (whole (not-bad-at i) (other (λ e. omega arith) calm-end)))
+
+    open-calm : (i : ℕ) (k : K) → Calm (open-rows M m i k)
+    open-calm i k = other (λ e. omega arith) (other (kept-else k) (whole (no-harm-on-path k) (other (λ e. omega arith) calm-end)))
+
+  calm : (w : World M) → ((y : ℕ) → Healthy M L (w y)) → (x : ℕ) (c : Call K W) → Calm (rows M w x c)
+  calm w h x (own makes) = sized-calm (w x) (h x)
+  calm w h x (own clears) = sized-calm (w x) (h x)
+  calm w h x (own capacities) = sized-calm (w x) (h x)
+  calm w h x (own lens) = count-calm (w x) (h x)
+  calm w h x (own empties) = count-calm (w x) (h x)
+  calm w h x (own (reserves n)) = other (λ e. omega arith) (whole (no-bad-somewhere (w x) (h x)) (other (λ e. omega arith) calm-end))
+  calm w h x (own (gets k)) = look-calm (w x) (h x) k
+  calm w h x (own (contains-keys k)) = look-calm (w x) (h x) k
+  calm w h x (own (removes k)) = other (λ e. omega arith) (other (asked-else k) (whole (no-harm-on-path (w x) (h x) k) calm-end))
+  calm w h x (own (entries k)) = place-calm (w x) (h x) k
+  calm w h x (own (inserts k v)) = place-calm (w x) (h x) k
+  calm w h x (own (occupied-gets i k)) = grip-calm (w x) (h x) i k
+  calm w h x (own (occupied-removes i k)) = other (λ e. omega arith) (other (asked-else k) (whole (λ p. ⊎-elim (no-harm (w x) (h x)) (not-bad-at (w x) (h x) i) p) (other (λ e. omega arith) calm-end)))
+  calm w h x (own (occupied-sets i k v)) = grip-calm (w x) (h x) i k
+  calm w h x (own (vacant-inserts i k v)) = open-calm (w x) (h x) i k
+  calm w h x (own (or-inserts (on-occupied i) k v)) = grip-calm (w x) (h x) i k
+  calm w h x (own (or-inserts (on-vacant i) k v)) = open-calm (w x) (h x) i k
+  calm w h x (own (insert-entries (on-occupied i) k v)) = grip-calm (w x) (h x) i k
+  calm w h x (own (insert-entries (on-vacant i) k v)) = open-calm (w x) (h x) i k
+  calm w h x (copies y) = other (λ e. omega arith) calm-end
+  calm w h x (unions y) = other (λ e. omega arith) (whole (λ p. ⊎-elim (⊎-elim (no-bad-somewhere (w x) (h x)) (no-harm (w x) (h x))) (⊎-elim (no-bad-somewhere (w y) (h y)) (no-harm (w y) (h y))) p) (other (λ e. omega arith) (other (λ e. omega arith) calm-end)))
+  calm w h x (steps a b) = other (λ e. omega arith) (other (λ e. omega arith) (other (λ e. omega arith) (whole (λ (j, u, l, v, q, r). h x .sound .whole j l q) calm-end)))
+
+  -- a sound table never answers 5, whatever the call (where a key itself is not refused with 5)
+  pub sound-never-5 : (w : World M) → ((y : ℕ) → Healthy M L (w y)) → (x : ℕ) (c : Call K W) → refusal (answer M w x c) ≡ 5 → ⊥
+  sound-never-5 w h x c e = first-calm (demand-1 M (L .homes) w x c) (calm w h x c) e
+
+-- What the walk of demand 3 is made of.
+module _ {K W : Type 0} (M : Store K W) where
+  both : (a b : Bool) → (a && b) ≡ true → (a ≡ true) × (b ≡ true)
+  both true b e = (refl, e)
+  both false b e = let z : _≡_ {A = ℕ} 0 1 = cc in absurd (omega arith)
+
+  -- make, clear, or a copy onto the table
+  abbrev pub Renewal : Call K W → Type 0
+  Renewal c = (c ≡ own makes) ⊎ ((c ≡ own clears) ⊎ ((y : ℕ) × (c ≡ copies y)))
+
+  swept : (c : Call K W) → sweeps M c ≡ true → Renewal c
+  unfolding sweeps renews
+  swept (own makes) e = inl refl
+  swept (own clears) e = inr (inl refl)
+  swept (own capacities) e = let z : _≡_ {A = ℕ} 0 1 = cc in absurd (omega arith)
+  swept (own lens) e = let z : _≡_ {A = ℕ} 0 1 = cc in absurd (omega arith)
+  swept (own empties) e = let z : _≡_ {A = ℕ} 0 1 = cc in absurd (omega arith)
+  swept (own (reserves n)) e = let z : _≡_ {A = ℕ} 0 1 = cc in absurd (omega arith)
+  swept (own (gets k)) e = let z : _≡_ {A = ℕ} 0 1 = cc in absurd (omega arith)
+  swept (own (contains-keys k)) e = let z : _≡_ {A = ℕ} 0 1 = cc in absurd (omega arith)
+  swept (own (removes k)) e = let z : _≡_ {A = ℕ} 0 1 = cc in absurd (omega arith)
+  swept (own (entries k)) e = let z : _≡_ {A = ℕ} 0 1 = cc in absurd (omega arith)
+  swept (own (inserts k v)) e = let z : _≡_ {A = ℕ} 0 1 = cc in absurd (omega arith)
+  swept (own (occupied-gets i k)) e = let z : _≡_ {A = ℕ} 0 1 = cc in absurd (omega arith)
+  swept (own (occupied-removes i k)) e = let z : _≡_ {A = ℕ} 0 1 = cc in absurd (omega arith)
+  swept (own (occupied-sets i k v)) e = let z : _≡_ {A = ℕ} 0 1 = cc in absurd (omega arith)
+  swept (own (vacant-inserts i k v)) e = let z : _≡_ {A = ℕ} 0 1 = cc in absurd (omega arith)
+  swept (own (or-inserts h k v)) e = let z : _≡_ {A = ℕ} 0 1 = cc in absurd (omega arith)
+  swept (own (insert-entries h k v)) e = let z : _≡_ {A = ℕ} 0 1 = cc in absurd (omega arith)
+  swept (copies y) e = inr (inr (y, refl))
+  swept (unions y) e = let z : _≡_ {A = ℕ} 0 1 = cc in absurd (omega arith)
+  swept (steps a b) e = let z : _≡_ {A = ℕ} 0 1 = cc in absurd (omega arith)
+
+  sweeping : (c : Call K W) → Renewal c → sweeps M c ≡ true
+  unfolding sweeps renews
+  sweeping c (inl e) = rw e
+  sweeping c (inr (inl e)) = rw e
+  sweeping c (inr (inr (y, e))) = rw e
+
+  -- what counts as removing every key of the walked table: an accepted make, clear, or copy onto it, and no other call
+  pub wipes-exactly : (x S : ℕ) (w : World M) (c : ℕ × Call K W) → (tables M x S .wipes w c ≡ true) ↔ ((c .0 ≡ x) × Renewal (c .1) × (refuses (answer M w (c .0) (c .1)) ≡ false))
+  wipes-exactly x S w c = (
+    (λ e.
+        let (a, p) = both (eqb (c .0) x) (sweeps M (c .1) && not (refuses (answer M w (c .0) (c .1)))) e in
+        let (b, r) = both (sweeps M (c .1)) (not (refuses (answer M w (c .0) (c .1)))) p in
+        (eqb-true (c .0) x a, swept (c .1) b, not-true (refuses (answer M w (c .0) (c .1))) r)),
+    (λ (a, b, r). rw (eq-eqb (c .0) x a, sweeping (c .1) b, r)),
+  )
+
+  module _ (L : Lawful M) (x S : ℕ) (w : World M) (f : AllSound M L x S w) where
+    -- a step of that walk is the published step of the table
+    pub walk-steps-alike : (a b : ℕ) → stepped (tables M x S) w tt a b ≡ stepping M (w x) a b
+    unfolding stepped stepping need
+    walk-steps-alike a b = rw (f .healthy x .sized, f .sized)
+
+    -- a step with a budget is never refused, whatever calls came before
+    pub walk-never-refused : (es : List (Event (ℕ × Call K W))) (b : ℕ) → 0 < b → unrefused (stepped (tables M x S) (stateAfter (tables M x S) w es) tt (walkAfter (tables M x S) w tt 0 es) b) ≡ 1
+    walk-never-refused es b l = walk-kept M L x S w f .going es b l refl
+
+-- A step of a walk, on any memory.
+module _ {K W : Type 0} (M : Store K W) (m : M .State) (a b : ℕ) where
+  strode-from : (p : Paced K W) → stepping M m a b ≡ ok p → Strode (M .size m) (M .slots m) a b p
+  unfolding stepping
+  strode-from p e = strode (M .size m) (M .slots m) a 0 b p (need-ok (M .sized m) 1 (step (M .size m) (M .slots m) 0 a b) p e .1)
+
+  -- a pair is that of the first live slot from the walk on; the walk moves past it, and counts what it passed, within the budget
+  pub step-pair : (k : K) (v : W) (x e : ℕ) → stepping M m a b ≡ ok (pair k v x e) → (j : ℕ) × (a ≤ j) × (j < M .size m) × (M .slots m j ≡ live k v) × ((i : ℕ) → a ≤ i → i < j → halts (M .slots m i) ≡ false) × (x ≡ suc j) × (a + e ≡ x) × (e ≤ b)
+  step-pair k v x e q = go (strode-from (pair k v x e) q)
+    where
+      go : Strode (M .size m) (M .slots m) a b (pair k v x e) → (j : ℕ) × (a ≤ j) × (j < M .size m) × (M .slots m j ≡ live k v) × ((i : ℕ) → a ≤ i → i < j → halts (M .slots m i) ≡ false) × (x ≡ suc j) × (a + e ≡ x) × (e ≤ b)
+      go (strode-pair j k′ v′ l h u t c d) =
+          let y : x ≡ suc j = cc in
+          let z : e ≡ suc j - a = cc in
+          (j, l, h, t ∙ ap (λ z. live z v′) (cc) ∙ ap (λ z. live k z) (cc), c, y, omega arith, omega arith)
+      go (strode-nothing j l h u c d) = let z : _≡_ {A = ℕ} 0 1 = cc in absurd (omega arith)
+      go (strode-done h d) = let z : _≡_ {A = ℕ} 0 1 = cc in absurd (omega arith)
+
+  -- nothing: no live slot among b slots, or up to S; all of them are passed and counted
+  pub step-nothing : (x e : ℕ) → stepping M m a b ≡ ok (nothing x e) → (x ≡ min (a + b) (M .size m)) × (a < x) × (a + e ≡ x) × ((i : ℕ) → a ≤ i → i < x → halts (M .slots m i) ≡ false)
+  step-nothing x e q = go (strode-from (nothing x e) q)
+    where
+      go : Strode (M .size m) (M .slots m) a b (nothing x e) → (x ≡ min (a + b) (M .size m)) × (a < x) × (a + e ≡ x) × ((i : ℕ) → a ≤ i → i < x → halts (M .slots m i) ≡ false)
+      go (strode-pair j k′ v′ l h u t c d) = let z : _≡_ {A = ℕ} 0 1 = cc in absurd (omega arith)
+      go (strode-nothing j l h u c d) =
+          let y : x ≡ j = cc in
+          let z : e ≡ j - a = cc in
+          (omega arith, omega arith, omega arith, λ i n o. c i n (omega arith))
+      go (strode-done h d) = let z : _≡_ {A = ℕ} 0 1 = cc in absurd (omega arith)
+
+  -- done: the walk stands at S, and stays there
+  pub step-done : (x : ℕ) → stepping M m a b ≡ ok (done x) → (a ≡ M .size m) × (x ≡ a)
+  step-done x q = go (strode-from (done x) q)
+    where
+      go : Strode (M .size m) (M .slots m) a b (done x) → (a ≡ M .size m) × (x ≡ a)
+      go (strode-pair j k′ v′ l h u t c d) = let z : _≡_ {A = ℕ} 0 1 = cc in absurd (omega arith)
+      go (strode-nothing j l h u c d) = let z : _≡_ {A = ℕ} 0 1 = cc in absurd (omega arith)
+      go (strode-done h d) = (h, cc)
