@@ -1,0 +1,4 @@
+-- The laws of integer maps.
+pub mod Laws
+pub mod Settled
+pub mod Demands

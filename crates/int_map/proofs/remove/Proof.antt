@@ -1,0 +1,123 @@
+-- `int_map::remove` meets its contract: the found slot is freed, its words become 0.
+use borrow.Author.Needs.{needs}
+use native.Mathlib.Omega.{arith}
+use Rattle.int_map.proofs.Laws.{hit-inside, remove-hit, remove-free, remove-full, remove-refused}
+use Rattle.int_map.proofs.remove.Statement.{statement}
+use Rattle.int_map.proofs.remove.Tie as tie
+
+seek-requires : tie.Need-seek-requires
+seek-requires c κs = search needs
+
+enum-known-seen : tie.Need-enum-known-seen
+enum-known-seen c = search needs
+
+mul-old : tie.Need-mul-old
+mul-old c = omega (arith, hit-inside _ _ _ _ (c .before .before .before .seek .ensures) (c .before .seen .given .1))
+
+slice-read-old : tie.Need-slice-read-old
+slice-read-old c = hit-inside _ _ _ _ (c .before .before .before .before .seek .ensures) (c .before .before .seen .given .1) .2
+
+slice-write-marks : tie.Need-slice-write-marks
+slice-write-marks c = hit-inside _ _ _ _ (c .before .before .before .before .seek .ensures) (c .before .before .seen .given .1) .0
+
+mul-keys : tie.Need-mul-keys
+mul-keys c = omega (arith, hit-inside _ _ _ _ (c .before .before .before .before .seek .ensures) (c .before .before .seen .given .1))
+
+slice-write-keys : tie.Need-slice-write-keys
+slice-write-keys c = hit-inside _ _ _ _ (c .before .before .before .before .seek .ensures) (c .before .before .seen .given .1) .1
+
+mul-values : tie.Need-mul-values
+mul-values c = omega (arith, hit-inside _ _ _ _ (c .before .before .before .before .seek .ensures) (c .before .before .seen .given .1))
+
+slice-write-values : tie.Need-slice-write-values
+slice-write-values c = hit-inside _ _ _ _ (c .before .before .before .before .seek .ensures) (c .before .before .seen .given .1) .2
+
+enum-known-seen-2 : tie.Need-enum-known-seen-2
+enum-known-seen-2 c = search needs
+
+enum-known-seen-3 : tie.Need-enum-known-seen-3
+enum-known-seen-3 c = search needs
+
+enum-known-seen-4 : tie.Need-enum-known-seen-4
+enum-known-seen-4 c = search needs
+
+same-length : tie.Need-same-length
+same-length c = search needs
+
+same-length-2 : tie.Need-same-length-2
+same-length-2 c = search needs
+
+same-length-3 : tie.Need-same-length-3
+same-length-3 c = search needs
+
+returns : tie.Need-returns
+returns c = remove-hit _ _ _ _ (c .before .before .before .before .seek .ensures) (c .before .before .seen .given .1)
+
+same-length-4 : tie.Need-same-length-4
+same-length-4 c = search needs
+
+same-length-5 : tie.Need-same-length-5
+same-length-5 c = search needs
+
+same-length-6 : tie.Need-same-length-6
+same-length-6 c = search needs
+
+returns-2 : tie.Need-returns-2
+returns-2 c = remove-free _ _ _ _ (c .before .before .before .seek .ensures) (c .before .seen2 .given .1)
+
+same-length-7 : tie.Need-same-length-7
+same-length-7 c = search needs
+
+same-length-8 : tie.Need-same-length-8
+same-length-8 c = search needs
+
+same-length-9 : tie.Need-same-length-9
+same-length-9 c = search needs
+
+returns-3 : tie.Need-returns-3
+returns-3 c = remove-full _ _ _ _ (c .before .before .before .seek .ensures) (c .before .seen3 .given .1)
+
+same-length-10 : tie.Need-same-length-10
+same-length-10 c = search needs
+
+same-length-11 : tie.Need-same-length-11
+same-length-11 c = search needs
+
+same-length-12 : tie.Need-same-length-12
+same-length-12 c = search needs
+
+returns-4 : tie.Need-returns-4
+returns-4 c = remove-refused _ _ _ _ (c .before .before .before .seek .ensures) (c .before .seen4 .given .1)
+
+pub remove-spec : {M : Type 1} → statement M
+remove-spec =
+    tie.close
+    (tie.spec
+    seek-requires
+    enum-known-seen
+    mul-old
+    slice-read-old
+    slice-write-marks
+    mul-keys
+    slice-write-keys
+    mul-values
+    slice-write-values
+    enum-known-seen-2
+    enum-known-seen-3
+    enum-known-seen-4
+    same-length
+    same-length-2
+    same-length-3
+    returns
+    same-length-4
+    same-length-5
+    same-length-6
+    returns-2
+    same-length-7
+    same-length-8
+    same-length-9
+    returns-3
+    same-length-10
+    same-length-11
+    same-length-12
+    returns-4)

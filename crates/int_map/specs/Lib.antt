@@ -1,0 +1,3 @@
+-- The definitions of integer maps.
+pub mod Memory
+pub mod Calls

@@ -1,0 +1,4 @@
+-- The laws of walks of integer maps.
+pub mod Steps
+pub mod Equal
+pub mod Settled

@@ -1,0 +1,80 @@
+-- `int_walk::pace` meets its contract: the pair of the first live slot, refusal 5, or nothing.
+use borrow.Author.Needs.{needs}
+use native.Mathlib.Omega.{arith}
+use Rattle.ints.proofs.Bridge.{next-inside}
+use Rattle.int_walk.proofs.Steps.{pace-live, pace-bad, pace-none}
+use Rattle.int_walk.proofs.pace.Statement.{statement}
+use Rattle.int_walk.proofs.pace.Tie as tie
+
+add-next-live : tie.Need-add-next-live
+add-next-live c = search needs
+
+next-live-requires : tie.Need-next-live-requires
+next-live-requires c κs = search needs
+
+enum-known-next : tie.Need-enum-known-next
+enum-known-next c = search needs
+
+add-t10 : tie.Need-add-t10
+add-t10 c = omega (arith, next-inside _ _ _ (c .before .before .before .next-live .ensures) (c .before .next .given .1))
+
+mul-t12 : tie.Need-mul-t12
+mul-t12 c = omega (arith, next-inside _ _ _ (c .before .before .before .next-live .ensures) (c .before .next .given .1))
+
+shared-slice-read-t14 : tie.Need-shared-slice-read-t14
+shared-slice-read-t14 c = omega (arith, next-inside _ _ _ (c .before .before .before .before .next-live .ensures) (c .before .before .next .given .1))
+
+mul-t15 : tie.Need-mul-t15
+mul-t15 c = omega (arith, next-inside _ _ _ (c .before .before .before .before .next-live .ensures) (c .before .before .next .given .1))
+
+shared-slice-read-t17 : tie.Need-shared-slice-read-t17
+shared-slice-read-t17 c = omega (arith, next-inside _ _ _ (c .before .before .before .before .before .next-live .ensures) (c .before .before .before .next .given .1))
+
+add-t19 : tie.Need-add-t19
+add-t19 c = omega (arith, next-inside _ _ _ (c .before .before .before .before .before .next-live .ensures) (c .before .before .before .next .given .1))
+
+sub-t20 : tie.Need-sub-t20
+sub-t20 c = omega (arith, next-inside _ _ _ (c .before .before .before .before .before .next-live .ensures) (c .before .before .before .next .given .1))
+
+enum-told : tie.Need-enum-told
+enum-told c = search needs
+
+refused-requires : tie.Need-refused-requires
+refused-requires c κs = search needs
+
+enum-told-2 : tie.Need-enum-told-2
+enum-told-2 c = search needs
+
+add-t22 : tie.Need-add-t22
+add-t22 c = search needs
+
+returns : tie.Need-returns
+returns c = pace-live _ _ _ _ _ (c .before .before .before .before .before .next-live .ensures) (c .before .before .before .next .given .1)
+
+returns-2 : tie.Need-returns-2
+returns-2 c = pace-bad _ _ _ _ _ (c .before .before .before .next-live .ensures) (c .before .enum-told .given .1) _ (c .refused .ensures)
+
+returns-3 : tie.Need-returns-3
+returns-3 c = pace-none _ _ _ _ _ (c .before .before .next-live .ensures) (c .enum-told2 .given .1)
+
+pub pace-spec : {M : Type 1} → statement M
+pace-spec =
+    tie.close
+    (tie.spec
+    add-next-live
+    next-live-requires
+    enum-known-next
+    add-t10
+    mul-t12
+    shared-slice-read-t14
+    mul-t15
+    shared-slice-read-t17
+    add-t19
+    sub-t20
+    enum-told
+    refused-requires
+    enum-told-2
+    add-t22
+    returns
+    returns-2
+    returns-3)

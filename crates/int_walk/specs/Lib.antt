@@ -1,0 +1,3 @@
+-- The definitions of walks of integer maps.
+pub mod Calls
+pub mod Numbers

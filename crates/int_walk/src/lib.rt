@@ -1,0 +1,109 @@
+// Walks of an integer map: a walk is a slot number, and each step hands out at most one pair within its budget.
+ghost use mathlib.Core.Path.{_≡_};
+ghost use Prim.Native.Nat.{_+_, _≤_};
+ghost use lib.ListN.{length};
+ghost use Rattle.model.specs.Calls.{no};
+ghost use Rattle.model.specs.Walk.{reachOf};
+ghost use Rattle.answers.specs.Refusals.{numberOf};
+ghost use Rattle.answers.specs.Said.{stepSaid};
+ghost use Rattle.ints.specs.Memory.{memory};
+ghost use Rattle.int_walk.specs.Calls.{paceOf, stepOf};
+ghost use Rattle.int_walk.specs.Numbers.{stepNumbers};
+use answers::Refusal;
+use ints::Next;
+
+// A walk of a map is the slot where it stands.
+pub struct Walk {
+    pub at: usize,
+}
+
+// What a step of a walk hands out: a pair, nothing, or that the walk is done; or a refusal.
+pub enum Paced {
+    Pair(u64, u64),
+    Nothing,
+    Done,
+    Refused(Refusal),
+}
+
+// The answer of a step: the walk moved on, what it hands out, and the examined number.
+pub struct Step {
+    pub walk: Walk,
+    pub out: Paced,
+    pub examined: usize,
+}
+
+// A refused step: the walk as it came, and 0 examined.
+fn refused(at: usize, why: Refusal) -> Step
+    ensures { λ r. ⌜ stepNumbers r ≡ stepSaid at (no (numberOf why)) ⌝ }
+{
+    Step {
+        walk: Walk { at },
+        out: Paced::Refused(why),
+        examined: 0,
+    }
+}
+
+// How many slots a step may look at: its budget, and no more than there are from here.
+fn reach(size: usize, at: usize, budget: u64) -> usize
+    requires { ⌜ at ≤ size ⌝ }
+    ensures { λ r. ⌜ r ≡ reachOf size at budget ⌝ }
+{
+    if budget <= (size - at) as u64 {
+        return budget as usize;
+    }
+    size - at
+}
+
+// The slots of a step: up to the first live one, within so many.
+fn pace(marks: &[u8], keys: &[u64], values: &[u64], at: usize, slots: usize) -> Step
+    requires { ⌜ (at + slots ≤ length (now marks)) × (length (now keys) ≡ length (now marks)) × (length (now values) ≡ length (now marks)) ⌝ }
+    ensures { λ r. ⌜ stepNumbers r ≡ paceOf (memory (now (marks .entry)) (now (keys .entry)) (now (values .entry))) at slots ⌝ }
+{
+    let next = ints::next_live(marks, at, at + slots);
+    match next {
+        Next::Live(slot) => Step {
+            walk: Walk { at: slot + 1 },
+            out: Paced::Pair(keys[slot], values[slot]),
+            examined: slot + 1 - at,
+        },
+        Next::Bad => refused(at, Refusal::Damaged),
+        Next::Nothing => Step {
+            walk: Walk { at: at + slots },
+            out: Paced::Nothing,
+            examined: slots,
+        },
+    }
+}
+
+impl Walk {
+    // A walk starts at slot 0.
+    pub fn start() -> Walk
+        ensures { λ r. ⌜ r .at ≡ 0 ⌝ }
+    {
+        Walk { at: 0 }
+    }
+
+    // One step with a budget of slots: the pair of the first live slot within it, nothing, or done.
+    pub fn step(self, marks: &[u8], keys: &[u64], values: &[u64], budget: u64) -> Step
+        ensures { λ r. ⌜ stepNumbers r ≡ stepOf (memory (now (marks .entry)) (now (keys .entry)) (now (values .entry))) (self .at) budget ⌝ }
+    {
+        let at = self.at;
+        if ints::map_fits(marks, keys, values) {
+            if budget == 0 {
+                return refused(at, Refusal::NoBudget);
+            }
+            if marks.len() < at {
+                return refused(at, Refusal::WalkBeyond);
+            }
+            if at == marks.len() {
+                return Step {
+                    walk: Walk { at },
+                    out: Paced::Done,
+                    examined: 0,
+                };
+            }
+            return pace(marks, keys, values, at, reach(marks.len(), at, budget));
+        }
+        refused(at, Refusal::Sizes)
+    }
+}
