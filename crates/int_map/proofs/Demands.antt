@@ -17,7 +17,7 @@ use Rattle.model.proofs.Demand2 as model
 use Rattle.model.proofs.Tables.{walk-kept}
 use Rattle.ints.specs.Columns.{values}
 use Rattle.ints.proofs.Lawful.{cells-lawful, values-orderly}
-use Rattle.int_map.specs.Memory.{maps}
+use Rattle.ints.specs.Maps.{maps}
 
 -- Integer maps are a lawful store.
 pub maps-lawful : Lawful maps

@@ -38,7 +38,7 @@ use Rattle.ints.specs.Seeking.{fittingMap, seekingMap}
 use Rattle.ints.proofs.Sizes.{both, fitting-says}
 use Rattle.ints.proofs.Bridge.{sized-is, seenOf, spotOf, scan-live, scan-bad}
 use Rattle.ints.proofs.Seeking.{get-seeking, remove-seeking, entry-seeking, sought-hit, sought-free}
-use Rattle.int_map.specs.Memory.{maps, told}
+use Rattle.ints.specs.Maps.{maps, told}
 use Rattle.int_map.specs.Calls.{makeOf, capacityOf, lenOf, isEmptyOf, reserveOf, getOf, containsKeyOf, insertOf, removeOf, copyOf}
 
 -- what a length says where it was counted, and where it was refused

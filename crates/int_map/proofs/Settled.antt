@@ -12,7 +12,7 @@ use Rattle.answers.specs.Numbers.{outcomeNumbers, countedNumbers, emptinessNumb
 use Rattle.answers.proofs.Equal.{outcomeNumbers-injective, countedNumbers-injective, emptinessNumbers-injective, reservedNumbers-injective, gotNumbers-injective, containedNumbers-injective, insertedNumbers-injective, removedNumbers-injective}
 use Rattle.ints.specs.Columns.{values}
 use Rattle.ints.specs.Memory.{Cells, memory}
-use Rattle.int_map.specs.Memory.{Told, told}
+use Rattle.ints.specs.Maps.{Told, told}
 use Rattle.int_map.specs.Calls.{makeOf, capacityOf, lenOf, isEmptyOf, reserveOf, getOf, containsKeyOf, insertOf, removeOf, copyOf}
 
 -- Two results of a call that reads.

@@ -5,7 +5,7 @@ use Rattle.answers.specs.declared.Numbers.{Numbers}
 use Rattle.answers.specs.Said.{doneSaid, countSaid, emptySaid, roomSaid, gotSaid, containedSaid, insertedSaid, removedSaid}
 use Rattle.ints.specs.Columns.{values}
 use Rattle.ints.specs.Memory.{Cells}
-use Rattle.int_map.specs.Memory.{maps, Told, told}
+use Rattle.ints.specs.Maps.{maps, Told, told}
 
 -- make and clear: every mark and word becomes 0.
 unfoldable pub makeOf : Cells values → Told

@@ -1,3 +1,2 @@
 -- The definitions of integer maps.
-pub mod Memory
 pub mod Calls

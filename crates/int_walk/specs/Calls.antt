@@ -6,7 +6,7 @@ use Rattle.answers.specs.declared.Numbers.{Numbers}
 use Rattle.answers.specs.Said.{stepSaid}
 use Rattle.ints.specs.Columns.{values}
 use Rattle.ints.specs.Memory.{Cells}
-use Rattle.int_map.specs.Memory.{maps}
+use Rattle.ints.specs.Maps.{maps}
 
 -- The slots of a step from `at`, so many.
 unfoldable pub paceOf : Cells values → ℕ → ℕ → Numbers

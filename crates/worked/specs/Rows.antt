@@ -4,7 +4,7 @@ use mathlib.Core.List.{List, [], _∷_}
 use Rattle.answers.specs.declared.Numbers.{Numbers}
 use Rattle.ints.specs.Columns.{values}
 use Rattle.ints.specs.Memory.{Cells, memory}
-use Rattle.int_map.specs.Memory.{Told, told}
+use Rattle.ints.specs.Maps.{Told, told}
 use Rattle.int_map.specs.Calls.{getOf, reserveOf, insertOf, removeOf}
 use Rattle.int_walk.specs.Calls.{stepOf}
 

@@ -1,9 +1,9 @@
--- An integer map as a store, and what a call on it tells and leaves.
+-- An integer map as a store, and what a call on it tells and leaves. The crates of the integer map share it.
 use Prim.Native.Nat.{ℕ}
 use Rattle.model.specs.Store.{Store}
 use Rattle.answers.specs.declared.Numbers.{Numbers}
 use Rattle.ints.specs.Columns.{values}
 use Rattle.ints.specs.Memory.{Cells, cells}
 
 -- An integer map as a store.
 abbrev pub maps : Store ℕ ℕ

@@ -1,0 +1,55 @@
+-- `int_entry::entry` meets its contract: each way in which the probing ends is an answer.
+use native.Mathlib.Omega.{arith}
+use Rattle.int_entry.proofs.Places.{hit-inside, entry-hit, entry-free, entry-full, entry-refused}
+use borrow.Author.Needs.{needs}
+use Rattle.int_entry.proofs.entry.Statement.{statement}
+use Rattle.int_entry.proofs.entry.Tie as tie
+
+seek-requires : tie.Need-seek-requires
+seek-requires c κs = search needs
+
+enum-known-seen : tie.Need-enum-known-seen
+enum-known-seen c = search needs
+
+mul-t13 : tie.Need-mul-t13
+mul-t13 c = let (a, b, d) = hit-inside _ _ _ _ (c .before .before .before .seek .ensures) (c .before .seen .given .1) in search needs
+
+shared-slice-read-t15 : tie.Need-shared-slice-read-t15
+shared-slice-read-t15 c = let (a, b, d) = hit-inside _ _ _ _ (c .before .before .before .before .seek .ensures) (c .before .before .seen .given .1) in omega arith
+
+enum-known-seen-2 : tie.Need-enum-known-seen-2
+enum-known-seen-2 c = search needs
+
+enum-told : tie.Need-enum-told
+enum-told c = search needs
+
+enum-known-seen-3 : tie.Need-enum-known-seen-3
+enum-known-seen-3 c = search needs
+
+returns : tie.Need-returns
+returns c = entry-hit _ _ _ _ (c .before .before .before .before .seek .ensures) (c .before .before .seen .given .1)
+
+returns-2 : tie.Need-returns-2
+returns-2 c = entry-free _ _ _ _ (c .before .before .before .seek .ensures) (c .before .seen2 .given .1)
+
+returns-3 : tie.Need-returns-3
+returns-3 c = entry-full _ _ _ _ (c .before .before .seek .ensures) (c .enum-told .given .1)
+
+returns-4 : tie.Need-returns-4
+returns-4 c = entry-refused _ _ _ _ (c .before .before .before .seek .ensures) (c .before .seen3 .given .1)
+
+pub entry-spec : {M : Type 1} → statement M
+entry-spec =
+    tie.close
+    (tie.spec
+    seek-requires
+    enum-known-seen
+    mul-t13
+    shared-slice-read-t15
+    enum-known-seen-2
+    enum-told
+    enum-known-seen-3
+    returns
+    returns-2
+    returns-3
+    returns-4)

@@ -1,0 +1,6 @@
+-- The laws of the integer map's union.
+pub mod Paths
+pub mod Needing
+pub mod Storing
+pub mod Joining
+pub mod Settled

@@ -1,0 +1,2 @@
+-- The definitions of the integer map's union.
+pub mod Calls
