@@ -1,0 +1,6 @@
+-- The laws of integer sets.
+pub mod Laws
+pub mod Steps
+pub mod Equal
+pub mod Settled
+pub mod Demands

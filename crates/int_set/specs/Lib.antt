@@ -1,0 +1,4 @@
+-- The definitions of integer sets.
+pub mod Memory
+pub mod Numbers
+pub mod Calls
