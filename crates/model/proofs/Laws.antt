@@ -1,4 +1,4 @@
--- The laws that a manual prints: each a short statement in document 01's words, over any store, and over any lawful store where a table must be sound.
+-- The laws that a manual prints: each a short statement in the scope's words, over any store, and over any lawful store where a table must be sound.
 use Prim.Native.Nat.{ℕ, zero, suc, _+_, _-_, _≤_, _<_, min}
 use mathlib.Core.Bool.{Bool, true, false, cond, not, _&&_}
 use mathlib.Core.List.{List, [], _∷_}

@@ -1,4 +1,4 @@
--- Demand 1: document 01's refusal table, call by call and row by row, on any memory.
+-- Demand 1: the scope's refusal table, call by call and row by row, on any memory.
 use Prim.Native.Nat.{ℕ, _+_, _-_, _≤_, _<_, max}
 use mathlib.Core.Bool.{true, false}
 use mathlib.Core.List.{List, [], _∷_}

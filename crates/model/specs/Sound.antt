@@ -1,4 +1,4 @@
--- Soundness of a table's slots, as document 01 words it.
+-- Soundness of a table's slots, as the scope words it.
 use Prim.Native.Nat.{ℕ, _<_}
 use mathlib.Core.Path.{_≡_}
 use Rattle.model.specs.Slots.{never, bad, live, Table}
