@@ -10,7 +10,7 @@ use Rattle.model.specs.Calls.{Or, no, ok, give, on-occupied, on-vacant, occupie
 use Rattle.answers.specs.declared.Refusal.{Refusal}
 use Rattle.answers.specs.declared.Numbers.{Numbers}
 use Rattle.answers.specs.Refusals.{numberOf}
-use Rattle.ints.specs.Columns.{values}
+use Rattle.kinds.specs.Columns.{values}
 use Rattle.ints.specs.Memory.{Cells, memory}
 use Rattle.int_entry.proofs.Entered.{the-type}
 use Rattle.int_entry.specs.declared.Occupied.{Occupied}
@@ -21,7 +21,8 @@ use Rattle.int_entry.specs.declared.Held.the-variants as held
 use Rattle.int_entry.specs.declared.Swapped.{Swapped}
 use Rattle.int_entry.specs.declared.Swapped.the-variants as swapped
 use Rattle.int_entry.specs.declared.Standing.the-variants as standing
-use Rattle.ints.specs.Maps.{maps, told}
+use Rattle.ints.specs.Maps.{maps}
+use Rattle.kinds.specs.Told.{told}
 use Rattle.int_entry.specs.Numbers.{heldNumbers, swappedNumbers, swappedSaid, standingNumbers, standingSaid}
 use Rattle.int_entry.specs.Calls.{getOf, setOf, insertOf, placeOf, handleOf, slotOf, orInsertOf, insertEntryOf}
 use Rattle.int_entry.proofs.Grips.{said, left, retold, get-ok, get-no}

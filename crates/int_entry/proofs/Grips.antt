@@ -8,16 +8,15 @@ use borrow.Author.Tests.{lt-ltb, le-ltb, eqb-true}
 use lib.Dec.{eqb}
 use lib.ListN.{length, getD, set}
 use Rattle.model.specs.Calls.{Or, no, ok, need, pass, gripOn, grip, occupied-get, after-set, occupied-remove, after-drop, acted}
-use Rattle.model.proofs.Cases.{by-bool, by-lt}
+use Rattle.model.proofs.Cases.{both, by-bool, by-lt}
 use Rattle.digest.specs.Home.{slotsFit}
 use Rattle.answers.specs.declared.Refusal.{Refusal}
 use Rattle.answers.specs.declared.Refusal.the-variants.{Sizes, BadHandle}
 use Rattle.answers.specs.declared.Numbers.{Numbers}
 use Rattle.answers.specs.Refusals.{numberOf}
-use Rattle.ints.specs.Columns.{values}
+use Rattle.kinds.specs.Columns.{values}
 use Rattle.ints.specs.Memory.{Cells, cell, memory}
 use Rattle.ints.specs.Seeking.{fittingMap}
-use Rattle.ints.proofs.Sizes.{both}
 use Rattle.int_entry.specs.declared.Occupied.{Occupied}
 use Rattle.int_entry.specs.declared.Held.{Held}
 use Rattle.int_entry.specs.declared.Held.the-variants as held
@@ -25,7 +24,8 @@ use Rattle.int_entry.specs.declared.Swapped.the-variants as swapped
 use Rattle.int_entry.specs.declared.Taken.{Taken}
 use Rattle.int_entry.specs.declared.Taken.the-variants as taken
 use Rattle.int_entry.specs.declared.TakenEntry.the-variants as taken-entry
-use Rattle.ints.specs.Maps.{maps, told}
+use Rattle.ints.specs.Maps.{maps}
+use Rattle.kinds.specs.Told.{told}
 use Rattle.int_entry.specs.Numbers.{heldNumbers, heldSaid, swappedNumbers, swappedSaid, takenNumbers, takenSaid, takenEntryNumbers, takenEntrySaid}
 use Rattle.int_entry.specs.Calls.{getOf, setOf, removeOf, removeEntryOf}
 

@@ -10,7 +10,7 @@ use lib.ListN.{length, getD, set}
 use Rattle.model.specs.Path.{Find, hit, miss, hurt}
 use Rattle.model.specs.Store.{path, slotAt, used}
 use Rattle.model.specs.Calls.{Or, no, ok, need, pass, give, acted, spotBy, entry, goodFor, vacancy, vacant-insert, after-fill}
-use Rattle.model.proofs.Cases.{by-bool, by-eq}
+use Rattle.model.proofs.Cases.{both, by-bool, by-eq}
 use Rattle.digest.specs.Home.{homeOfWord}
 use Rattle.answers.specs.declared.Refusal.{Refusal}
 use Rattle.answers.specs.declared.Refusal.the-variants.{BadHandle, NoSlot}
@@ -21,16 +21,16 @@ use Rattle.answers.specs.Numbers.{outcomeNumbers}
 use Rattle.answers.specs.Said.{doneSaid}
 use Rattle.ints.specs.declared.Probed.{Probed}
 use Rattle.ints.specs.declared.Probed.the-variants as probed
-use Rattle.ints.specs.Columns.{values}
+use Rattle.kinds.specs.Columns.{values}
 use Rattle.ints.specs.Memory.{Cells, fitting, memory}
 use Rattle.ints.specs.Probing.{along}
 use Rattle.ints.specs.Seeking.{seeking, seekingMap}
-use Rattle.ints.proofs.Sizes.{both}
 use Rattle.ints.proofs.Bridge.{spotOf, sized-is, probing-path}
 use Rattle.ints.proofs.Seeking.{entry-seeking, sought-hit, sought-free}
 use Rattle.int_entry.specs.declared.Entered.the-variants as entered
 use Rattle.int_entry.specs.declared.Standing.the-variants as standing
-use Rattle.ints.specs.Maps.{maps, told}
+use Rattle.ints.specs.Maps.{maps}
+use Rattle.kinds.specs.Told.{told}
 use Rattle.int_entry.specs.Numbers.{enteredNumbers, enteredSaid, standingNumbers, standingSaid}
 use Rattle.int_entry.specs.Calls.{entryOf, freshOf, insertOf}
 

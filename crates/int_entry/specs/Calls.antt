@@ -3,11 +3,12 @@ use Prim.Native.Nat.{ℕ}
 use Rattle.model.specs.Calls.{Handle, on-occupied, on-vacant, entry, occupied-get, after-set, occupied-remove, after-drop, vacancy, vacant-insert, after-fill, or-insert, after-or-insert, insert-entry, after-insert-entry}
 use Rattle.answers.specs.declared.Numbers.{Numbers}
 use Rattle.answers.specs.Said.{doneSaid}
-use Rattle.ints.specs.Columns.{values}
+use Rattle.kinds.specs.Columns.{values}
 use Rattle.ints.specs.Memory.{Cells}
 use Rattle.int_entry.specs.declared.Entered.{Entered}
 use Rattle.int_entry.specs.declared.Entered.the-variants.{Occupied, Vacant, Refused}
-use Rattle.ints.specs.Maps.{maps, Told, told}
+use Rattle.ints.specs.Maps.{maps}
+use Rattle.kinds.specs.Told.{Told, told}
 use Rattle.int_entry.specs.Numbers.{enteredSaid, heldSaid, swappedSaid, takenSaid, takenEntrySaid, standingSaid}
 
 -- entry: where the key stands or would go.
@@ -19,15 +20,15 @@ unfoldable pub getOf : Cells values → ℕ → ℕ → Numbers
 getOf m s k = heldSaid s (occupied-get maps m s k)
 
 -- Its set: the slot's value changes.
-unfoldable pub setOf : Cells values → ℕ → ℕ → ℕ → Told
+unfoldable pub setOf : Cells values → ℕ → ℕ → ℕ → Told (Cells values)
 setOf m s k v = told (swappedSaid s (occupied-get maps m s k)) (after-set maps m s k v)
 
 -- Its remove: the slot is freed.
-unfoldable pub removeOf : Cells values → ℕ → ℕ → Told
+unfoldable pub removeOf : Cells values → ℕ → ℕ → Told (Cells values)
 removeOf m s k = told (takenSaid (occupied-remove maps m s k)) (after-drop maps m s k)
 
 -- Its remove_entry: the same, and the key is told too.
-unfoldable pub removeEntryOf : Cells values → ℕ → ℕ → Told
+unfoldable pub removeEntryOf : Cells values → ℕ → ℕ → Told (Cells values)
 removeEntryOf m s k = told (takenEntrySaid k (occupied-remove maps m s k)) (after-drop maps m s k)
 
 -- Whether a vacant handle is good.
@@ -35,7 +36,7 @@ unfoldable pub freshOf : Cells values → ℕ → ℕ → Numbers
 freshOf m s k = doneSaid (vacancy maps m s k)
 
 -- A vacant handle's insert: its slot takes the key and the value.
-unfoldable pub insertOf : Cells values → ℕ → ℕ → ℕ → Told
+unfoldable pub insertOf : Cells values → ℕ → ℕ → ℕ → Told (Cells values)
 insertOf m s k v = told (standingSaid s (vacant-insert maps m s k v)) (after-fill maps m s k v)
 
 -- The slot of an entry answer that is not occupied: a refused one counts as a vacant handle of slot S.
@@ -56,9 +57,9 @@ slotOf (on-occupied s) = s
 slotOf (on-vacant s) = s
 
 -- or_insert: a present value stays, else the default goes in.
-unfoldable pub orInsertOf : Cells values → Handle → ℕ → ℕ → Told
+unfoldable pub orInsertOf : Cells values → Handle → ℕ → ℕ → Told (Cells values)
 orInsertOf m h k v = told (standingSaid (slotOf h) (or-insert maps m h k v)) (after-or-insert maps m h k v)
 
 -- insert_entry: a present value is replaced, else the value goes in.
-unfoldable pub insertEntryOf : Cells values → Handle → ℕ → ℕ → Told
+unfoldable pub insertEntryOf : Cells values → Handle → ℕ → ℕ → Told (Cells values)
 insertEntryOf m h k v = told (standingSaid (slotOf h) (insert-entry maps m h k v)) (after-insert-entry maps m h k v)

@@ -15,8 +15,9 @@ use Rattle.model.specs.Tables.{tables, AllSound}
 use Rattle.model.proofs.Least.{lowest-given, refused-still}
 use Rattle.model.proofs.Demand2 as model
 use Rattle.model.proofs.Tables.{walk-kept}
-use Rattle.ints.specs.Columns.{values}
-use Rattle.ints.proofs.Lawful.{cells-lawful, values-orderly}
+use Rattle.kinds.specs.Columns.{values}
+use Rattle.kinds.proofs.Columns.{values-orderly}
+use Rattle.ints.proofs.Lawful.{cells-lawful}
 use Rattle.ints.specs.Maps.{maps}
 
 -- Integer maps are a lawful store.

@@ -10,7 +10,7 @@ use lib.ListN.{length, getD, set, replicate}
 use Rattle.model.specs.Calls as model
 use Rattle.model.specs.Calls.{Or, no, ok, need, get, entry, storedBy, after-insert, remove, removedBy, after-remove, acted, capacity, after-make, reserve, copy, after-copy}
 use Rattle.model.specs.Store.{Store, live-count, hurtful}
-use Rattle.model.proofs.Cases.{by-bool}
+use Rattle.model.proofs.Cases.{both, by-bool}
 use Rattle.model.proofs.Slots.{count-high}
 use Rattle.answers.specs.declared.Refusal.{Refusal}
 use Rattle.answers.specs.declared.Refusal.the-variants.{Sizes, Damaged, NoSlot}
@@ -31,14 +31,15 @@ use Rattle.ints.specs.declared.Probed.{Probed}
 use Rattle.ints.specs.declared.Probed.the-variants.{Hit, Free, Full, Refused}
 use Rattle.ints.specs.declared.Scanned.{Scanned}
 use Rattle.ints.specs.declared.Scanned.the-variants as scanned
-use Rattle.ints.specs.Columns.{values}
+use Rattle.kinds.specs.Columns.{values}
 use Rattle.ints.specs.Memory.{fitting, memory}
 use Rattle.ints.specs.Scanning.{scanning}
 use Rattle.ints.specs.Seeking.{fittingMap, seekingMap}
-use Rattle.ints.proofs.Sizes.{both, fitting-says}
+use Rattle.ints.proofs.Sizes.{fitting-says}
 use Rattle.ints.proofs.Bridge.{sized-is, seenOf, spotOf, scan-live, scan-bad}
 use Rattle.ints.proofs.Seeking.{get-seeking, remove-seeking, entry-seeking, sought-hit, sought-free}
-use Rattle.ints.specs.Maps.{maps, told}
+use Rattle.ints.specs.Maps.{maps}
+use Rattle.kinds.specs.Told.{told}
 use Rattle.int_map.specs.Calls.{makeOf, capacityOf, lenOf, isEmptyOf, reserveOf, getOf, containsKeyOf, insertOf, removeOf, copyOf}
 
 -- what a length says where it was counted, and where it was refused

@@ -2,7 +2,7 @@
 ghost use mathlib.Core.Path.{_≡_};
 ghost use Rattle.answers.specs.Numbers.{outcomeNumbers, countedNumbers, emptinessNumbers, reservedNumbers, gotNumbers, containedNumbers, insertedNumbers, removedNumbers};
 ghost use Rattle.ints.specs.Memory.{memory};
-ghost use Rattle.ints.specs.Maps.{told};
+ghost use Rattle.kinds.specs.Told.{told};
 ghost use Rattle.int_map.specs.Calls.{makeOf, capacityOf, lenOf, isEmptyOf, reserveOf, getOf, containsKeyOf, insertOf, removeOf, copyOf};
 use answers::Contained;
 use answers::Counted;

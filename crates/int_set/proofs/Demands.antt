@@ -15,8 +15,9 @@ use Rattle.model.specs.Tables.{tables, AllSound}
 use Rattle.model.proofs.Least.{lowest-given, refused-still}
 use Rattle.model.proofs.Demand2 as model
 use Rattle.model.proofs.Tables.{walk-kept}
-use Rattle.ints.specs.Columns.{nothing}
-use Rattle.ints.proofs.Lawful.{cells-lawful, nothing-orderly}
+use Rattle.kinds.specs.Columns.{nothing}
+use Rattle.kinds.proofs.Columns.{nothing-orderly}
+use Rattle.ints.proofs.Lawful.{cells-lawful}
 use Rattle.int_set.specs.Memory.{sets}
 
 -- Integer sets are a lawful store.

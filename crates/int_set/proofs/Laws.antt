@@ -26,13 +26,14 @@ use Rattle.ints.specs.declared.Probed.{Probed}
 use Rattle.ints.specs.declared.Probed.the-variants.{Hit, Free}
 use Rattle.ints.specs.declared.Scanned.{Scanned}
 use Rattle.ints.specs.declared.Scanned.the-variants as scanned
-use Rattle.ints.specs.Columns.{nothing}
+use Rattle.kinds.specs.Columns.{nothing}
 use Rattle.ints.specs.Memory.{fitting}
 use Rattle.ints.specs.Probing.{probing}
 use Rattle.ints.specs.Scanning.{scanning}
 use Rattle.ints.proofs.Sizes.{fitting-says}
 use Rattle.ints.proofs.Bridge.{sized-is, seenOf, spotOf, get-probing, remove-probing, entry-probing, hit-slot, free-slot, scan-live, scan-bad}
-use Rattle.int_set.specs.Memory.{sets, memory, told}
+use Rattle.int_set.specs.Memory.{sets, memory}
+use Rattle.kinds.specs.Told.{told}
 use Rattle.int_set.specs.Calls.{makeOf, capacityOf, lenOf, isEmptyOf, reserveOf, getOf, containsOf, insertOf, removeOf, copyOf}
 
 -- what a length says where it was counted, and where it was refused

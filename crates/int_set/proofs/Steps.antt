@@ -13,7 +13,7 @@ use Rattle.model.specs.Walk.{reachOf, pace, step}
 use Rattle.model.proofs.Walk.{reach-high}
 use Rattle.ints.specs.declared.Next.{Next}
 use Rattle.ints.specs.declared.Next.the-variants as next
-use Rattle.ints.specs.Columns.{nothing}
+use Rattle.kinds.specs.Columns.{nothing}
 use Rattle.ints.specs.Memory.{fitting}
 use Rattle.ints.specs.Scanning.{nexting}
 use Rattle.ints.proofs.Bridge.{paced-by}

@@ -5,13 +5,14 @@ use Rattle.model.specs.Machine.{stepping}
 use Rattle.model.specs.Walk.{paceTo}
 use Rattle.answers.specs.declared.Numbers.{Numbers}
 use Rattle.answers.specs.Said.{doneSaid, countSaid, emptySaid, roomSaid, memberSaid, containedSaid, addedSaid, droppedSaid}
-use Rattle.ints.specs.Columns.{nothing}
+use Rattle.kinds.specs.Columns.{nothing}
 use Rattle.ints.specs.Memory.{Cells}
-use Rattle.int_set.specs.Memory.{sets, Told, told}
+use Rattle.int_set.specs.Memory.{sets}
+use Rattle.kinds.specs.Told.{Told, told}
 use Rattle.int_set.specs.Numbers.{memberStepSaid}
 
 -- make and clear: every mark and word becomes 0.
-unfoldable pub makeOf : Cells nothing → Told
+unfoldable pub makeOf : Cells nothing → Told (Cells nothing)
 makeOf m = told (doneSaid (capacity sets m)) (after-make sets m)
 
 -- capacity: the number of slots.
@@ -39,15 +40,15 @@ unfoldable pub containsOf : Cells nothing → ℕ → Numbers
 containsOf m k = containedSaid (get sets m k)
 
 -- insert: the first free slot of the key's path takes it; a key that is there stores nothing.
-unfoldable pub insertOf : Cells nothing → ℕ → Told
+unfoldable pub insertOf : Cells nothing → ℕ → Told (Cells nothing)
 insertOf m k = told (addedSaid (entry sets m k)) (after-insert sets m k tt)
 
 -- remove: the mark becomes 2, the word 0.
-unfoldable pub removeOf : Cells nothing → ℕ → Told
+unfoldable pub removeOf : Cells nothing → ℕ → Told (Cells nothing)
 removeOf m k = told (droppedSaid (remove sets m k)) (after-remove sets m k)
 
 -- copy: every slot becomes that of the other table.
-unfoldable pub copyOf : Cells nothing → Cells nothing → Told
+unfoldable pub copyOf : Cells nothing → Cells nothing → Told (Cells nothing)
 copyOf to from = told (doneSaid (copy sets to from)) (after-copy sets to from)
 
 -- The slots of a step from `at`, so many.

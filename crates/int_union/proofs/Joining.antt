@@ -19,12 +19,13 @@ use Rattle.answers.specs.Numbers.{outcomeNumbers}
 use Rattle.answers.specs.Said.{doneSaid}
 use Rattle.ints.specs.declared.Scanned.{Scanned}
 use Rattle.ints.specs.declared.Scanned.the-variants as scanned
-use Rattle.ints.specs.Columns.{values}
+use Rattle.kinds.specs.Columns.{values}
 use Rattle.ints.specs.Memory.{Cells, memory}
 use Rattle.ints.specs.Scanning.{scanning}
 use Rattle.ints.specs.Seeking.{fittingMap}
 use Rattle.ints.proofs.Bridge.{scan-bad, scan-live}
-use Rattle.ints.specs.Maps.{maps, told}
+use Rattle.ints.specs.Maps.{maps}
+use Rattle.kinds.specs.Told.{told}
 use Rattle.int_union.specs.Calls.{unionOf, planOf, lacksOf, allStored}
 use Rattle.int_union.proofs.Paths.{one-length}
 

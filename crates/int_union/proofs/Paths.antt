@@ -10,11 +10,11 @@ use Rattle.model.specs.Store.{path}
 use Rattle.digest.specs.Home.{homeOfWord, slotsFit}
 use Rattle.ints.specs.declared.Probed.{Probed}
 use Rattle.ints.specs.declared.Probed.the-variants as probed
-use Rattle.ints.specs.Columns.{values}
+use Rattle.kinds.specs.Columns.{values}
 use Rattle.ints.specs.Memory.{fitting, memory}
 use Rattle.ints.specs.Probing.{along}
 use Rattle.ints.specs.Seeking.{seeking, seekingMap, fittingMap}
-use Rattle.ints.proofs.Sizes.{both}
+use Rattle.model.proofs.Cases.{both}
 use Rattle.ints.proofs.Bridge.{sized-is, probing-path}
 use Rattle.ints.proofs.Seeking.{sought-hit, sought-free}
 use Rattle.ints.specs.Maps.{maps}

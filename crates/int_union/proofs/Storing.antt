@@ -16,7 +16,7 @@ use Rattle.digest.specs.Home.{homeOfWord}
 use Rattle.answers.specs.declared.Refusal.{Refusal}
 use Rattle.ints.specs.declared.Probed.{Probed}
 use Rattle.ints.specs.declared.Probed.the-variants as probed
-use Rattle.ints.specs.Columns.{values}
+use Rattle.kinds.specs.Columns.{values}
 use Rattle.ints.specs.Memory.{Cells, cell, memory}
 use Rattle.ints.specs.Probing.{along}
 use Rattle.ints.specs.Seeking.{fittingMap, seekingMap}

@@ -5,12 +5,13 @@ use Rattle.model.specs.Slots.{weigh, total, pairOf, pairs}
 use Rattle.model.specs.Calls.{storeAll, lacking, union, after-union}
 use Rattle.answers.specs.declared.Numbers.{Numbers}
 use Rattle.answers.specs.Said.{doneSaid}
-use Rattle.ints.specs.Columns.{values}
+use Rattle.kinds.specs.Columns.{values}
 use Rattle.ints.specs.Memory.{Cells, cell}
-use Rattle.ints.specs.Maps.{maps, Told, told}
+use Rattle.ints.specs.Maps.{maps}
+use Rattle.kinds.specs.Told.{Told, told}
 
 -- union_prefer_right: the right's pairs go into the left, all or none.
-unfoldable pub unionOf : Cells values → Cells values → Told
+unfoldable pub unionOf : Cells values → Cells values → Told (Cells values)
 unionOf l r = told (doneSaid (union maps l r)) (after-union maps l r)
 
 -- Its tests alone.

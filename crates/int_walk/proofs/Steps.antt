@@ -14,7 +14,7 @@ use Rattle.model.proofs.Walk.{reach-high}
 use Rattle.answers.specs.Said.{stepSaid}
 use Rattle.ints.specs.declared.Next.{Next}
 use Rattle.ints.specs.declared.Next.the-variants as next
-use Rattle.ints.specs.Columns.{values}
+use Rattle.kinds.specs.Columns.{values}
 use Rattle.ints.specs.Memory.{memory}
 use Rattle.ints.specs.Scanning.{nexting}
 use Rattle.ints.specs.Seeking.{fittingMap}

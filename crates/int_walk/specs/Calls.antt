@@ -4,7 +4,7 @@ use Rattle.model.specs.Machine.{stepping}
 use Rattle.model.specs.Walk.{paceTo}
 use Rattle.answers.specs.declared.Numbers.{Numbers}
 use Rattle.answers.specs.Said.{stepSaid}
-use Rattle.ints.specs.Columns.{values}
+use Rattle.kinds.specs.Columns.{values}
 use Rattle.ints.specs.Memory.{Cells}
 use Rattle.ints.specs.Maps.{maps}
 

@@ -25,8 +25,8 @@ use Rattle.ints.specs.declared.Scanned.{Scanned}
 use Rattle.ints.specs.declared.Scanned.the-variants as scanned
 use Rattle.ints.specs.declared.Next.{Next}
 use Rattle.ints.specs.declared.Next.the-variants as next
-use Rattle.ints.specs.Columns.{Column}
-use Rattle.ints.specs.Columns as columns
+use Rattle.kinds.specs.Columns.{Column}
+use Rattle.kinds.specs.Columns as columns
 use Rattle.ints.specs.Memory.{Cells, cell, integers, cells, fitting}
 use Rattle.ints.specs.Probing.{along, probing}
 use Rattle.ints.specs.Scanning.{marksOnly, scanning, nextAt, nexting}

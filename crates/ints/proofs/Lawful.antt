@@ -10,41 +10,12 @@ use lib.Seq.{getD-set-same, getD-set-other}
 use Rattle.model.specs.Slots.{Slot, never, freed, bad, live, Table, put, made, total, weigh}
 use Rattle.model.specs.Store.{used}
 use Rattle.model.specs.Lawful.{Lawful}
-use Rattle.model.proofs.Cases.{by-eq}
+use Rattle.model.proofs.Cases.{both, by-eq}
 use Rattle.digest.specs.Home.{homeOfWord, slotsFit}
 use Rattle.digest.proofs.Bounds.{home-word-below}
-use Rattle.ints.specs.Columns.{Column, values, nothing}
+use Rattle.kinds.specs.Columns.{Column}
+use Rattle.kinds.proofs.Columns.{Orderly}
 use Rattle.ints.specs.Memory.{Cells, cell, cells}
-use Rattle.ints.proofs.Sizes.{both}
-
--- What a column owes: a written word is read back, the others stay, and its length stays.
-pub record Orderly {W : Type 0} (C : Column W) : Type 0 where
-  pub read-same : (ws : C .Words) (n i : ℕ) (v : W) → C .long ws n ≡ true → i < n → C .read (C .write ws i v) i ≡ v
-  pub read-other : (ws : C .Words) (i j : ℕ) (v : W) → (j ≡ i → ⊥) → C .read (C .write ws i v) j ≡ C .read ws j
-  pub blank-other : (ws : C .Words) (i j : ℕ) → (j ≡ i → ⊥) → C .read (C .blank ws i) j ≡ C .read ws j
-  pub long-write : (ws : C .Words) (n i : ℕ) (v : W) → C .long (C .write ws i v) n ≡ C .long ws n
-  pub long-blank : (ws : C .Words) (n i : ℕ) → C .long (C .blank ws i) n ≡ C .long ws n
-  pub long-wipe : (ws : C .Words) (n : ℕ) → C .long (C .wipe ws) n ≡ C .long ws n
-
-pub values-orderly : Orderly values
-values-orderly = record {
-  read-same = λ ws n i v e l. getD-set-same ws i v 0 (omega (arith, eqb-true n (length ws) e));
-  read-other = λ ws i j v h. getD-set-other ws i j v 0 h;
-  blank-other = λ ws i j h. getD-set-other ws i j 0 0 h;
-  long-write = λ ws n i v. ap (λ k. eqb n k) (length-set ws i v);
-  long-blank = λ ws n i. ap (λ k. eqb n k) (length-set ws i 0);
-  long-wipe = λ ws n. ap (λ k. eqb n k) (length-replicate {A = ℕ} (length ws) 0);
-}
-
-pub nothing-orderly : Orderly nothing
-nothing-orderly = record {
-  read-same = λ ws n i v e l. refl;
-  read-other = λ ws i j v h. refl;
-  blank-other = λ ws i j h. refl;
-  long-write = λ ws n i v. refl;
-  long-blank = λ ws n i. refl;
-  long-wipe = λ ws n. refl;
-}
 
 zeros : (n j : ℕ) → _≡_ {A = ℕ} (getD (replicate n 0) j 0) 0
 zeros zero j = refl

@@ -13,7 +13,7 @@ use Rattle.model.specs.Calls.{no, need, get, entry, remove}
 use Rattle.model.proofs.Cases.{by-bool}
 use Rattle.ints.specs.declared.Probed.{Probed}
 use Rattle.ints.specs.declared.Probed.the-variants.{Hit, Free, Refused}
-use Rattle.ints.specs.Columns.{Column, values}
+use Rattle.kinds.specs.Columns.{Column, values}
 use Rattle.ints.specs.Memory.{Cells, cells, fitting, memory}
 use Rattle.ints.specs.Probing.{probing}
 use Rattle.ints.specs.Seeking.{seeking, fittingMap, seekingMap}

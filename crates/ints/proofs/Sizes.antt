@@ -8,6 +8,7 @@ use borrow.Author.Tests.{ltb-true, eqb-true}
 use lib.Dec.{ltb, leb, eqb}
 use lib.ListN.{length}
 use Rattle.model.specs.Path.{find}
+use Rattle.model.proofs.Cases.{both}
 use Rattle.digest.specs.Home.{homeOfWord, slotsFit}
 use Rattle.digest.proofs.Bounds.{home-word-below}
 use Rattle.answers.specs.declared.Refusal.the-variants.{Sizes}
@@ -15,11 +16,6 @@ use Rattle.ints.specs.declared.Probed.{Probed}
 use Rattle.ints.specs.declared.Probed.the-variants.{Refused}
 use Rattle.ints.specs.Memory.{integers, fitting}
 use Rattle.ints.specs.Probing.{keysOnly, along, probing}
-
--- two tests that pass together pass each
-pub both : (a b : Bool) → (a && b) ≡ true → (a ≡ true) × (b ≡ true)
-both true b e = (refl, e)
-both false b e = let z : _≡_ {A = ℕ} 0 1 = cc in absurd (omega arith)
 
 module _ (marks keys : List ℕ) where
   -- marks and keys that fit are of one length, and there are some

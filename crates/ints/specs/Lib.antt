@@ -1,5 +1,4 @@
 -- The definitions of integer tables.
-pub mod Columns
 pub mod Memory
 pub mod Probing
 pub mod Scanning

@@ -9,7 +9,7 @@ use lib.ListN.{length, getD, set, replicate}
 use Rattle.model.specs.Slots.{Slot, never, freed, bad, live, Keys}
 use Rattle.model.specs.Store.{Store}
 use Rattle.digest.specs.Home.{homeOfWord, slotsFit}
-use Rattle.ints.specs.Columns.{Column, values}
+use Rattle.kinds.specs.Columns.{Column, values}
 
 -- Marks, keys, and what stands beside the keys.
 pub record Cells {W : Type 0} (C : Column W) : Type 0 where

@@ -6,7 +6,7 @@ use lib.ListN.{length}
 use Rattle.answers.specs.declared.Refusal.the-variants.{Sizes}
 use Rattle.ints.specs.declared.Probed.{Probed}
 use Rattle.ints.specs.declared.Probed.the-variants.{Refused}
-use Rattle.ints.specs.Columns.{Column, values}
+use Rattle.kinds.specs.Columns.{Column, values}
 use Rattle.ints.specs.Memory.{Cells, cells, memory}
 use Rattle.ints.specs.Probing.{probing}
 

@@ -1,7 +1,8 @@
 -- Case splits that keep the test's equation.
 use Prim.Native.Nat.{ℕ, _<_, _≤_}
-use mathlib.Core.Bool.{Bool, true, false}
+use mathlib.Core.Bool.{Bool, true, false, _&&_}
 use mathlib.Core.Path.{_≡_, refl}
+use native.Mathlib.Omega.{arith}
 use borrow.Author.Tests.{ltb-true, ltb-false, eqb-true, eqb-false}
 use lib.Dec.{ltb, eqb}
 use Rattle.model.specs.Slots.{Keys}
@@ -22,3 +23,8 @@ by-eq a b equal apart = by-bool (eqb a b) (λ e. equal (eqb-true a b e) e) (λ e
 -- a is the key k or not, each with its test
 pub by-same {ℓ} : {A : Type ℓ} {K : Type 0} (E : Keys K) (a k : K) → (a ≡ k → E .same a k ≡ true → A) → (E .same a k ≡ false → A) → A
 by-same E a k equal apart = by-bool (E .same a k) (λ e. equal (E .right a k e) e) apart
+
+-- Two tests that pass together pass each.
+pub both : (a b : Bool) → (a && b) ≡ true → (a ≡ true) × (b ≡ true)
+both true b e = (refl, e)
+both false b e = let z : _≡_ {A = ℕ} 0 1 = cc in absurd (omega arith)

@@ -2,9 +2,9 @@
 use Prim.Native.Nat.{ℕ}
 use mathlib.Core.List.{List, [], _∷_}
 use Rattle.answers.specs.declared.Numbers.{Numbers}
-use Rattle.ints.specs.Columns.{values}
+use Rattle.kinds.specs.Columns.{values}
 use Rattle.ints.specs.Memory.{Cells, memory}
-use Rattle.ints.specs.Maps.{Told, told}
+use Rattle.kinds.specs.Told.{Told, told}
 use Rattle.int_map.specs.Calls.{getOf, reserveOf, insertOf, removeOf}
 use Rattle.int_walk.specs.Calls.{stepOf}
 
@@ -15,7 +15,7 @@ pub data Order : Type 0 where
   steps : ℕ → ℕ → Order
 
 -- What a call tells and leaves, by the definition that its contract cites.
-unfoldable pub done : Cells values → Order → Told
+unfoldable pub done : Cells values → Order → Told (Cells values)
 done m (inserts k v) = insertOf m k v
 done m (removes k) = removeOf m k
 done m (gets k) = told (getOf m k) m
@@ -23,20 +23,20 @@ done m (reserves n) = told (reserveOf m n) m
 done m (steps a b) = told (stepOf m a b) m
 
 -- What the calls of a list tell and leave, one after the other.
-unfoldable pub trace : Cells values → List Order → List Told
+unfoldable pub trace : Cells values → List Order → List (Told (Cells values))
 trace m [] = []
 trace m (o ∷ os) = done m o ∷ trace (done m o .memory) os
 
 -- A row: the call, and what it tells and leaves.
 pub record Row : Type 0 where
   pub order : Order
-  pub tells : Told
+  pub tells : Told (Cells values)
 
 unfoldable pub orders : List Row → List Order
 orders [] = []
 orders (r ∷ rs) = r .order ∷ orders rs
 
-unfoldable pub answers : List Row → List Told
+unfoldable pub answers : List Row → List (Told (Cells values))
 answers [] = []
 answers (r ∷ rs) = r .tells ∷ answers rs
 

@@ -1,0 +1,3 @@
+-- The laws that all kinds of tables share.
+pub mod Columns
+pub mod Settled

@@ -1,0 +1,3 @@
+-- The definitions that all kinds of tables share.
+pub mod Columns
+pub mod Told

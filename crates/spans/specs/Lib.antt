@@ -1,0 +1,3 @@
+-- The definitions of byte tables.
+pub mod Keys
+pub mod Memory
