@@ -78,13 +78,56 @@ droppedSaid (no n) = saidNo n
 droppedSaid (ok (found v s e)) = saidCase 11 0 0 s e
 droppedSaid (ok (absent e)) = saidCase 8 0 0 0 e
 
--- A walk's step of an integer map from w: the pair, nothing or done, with the walk moved on; a refusal with the walk as it came.
-unfoldable pub stepSaid : ℕ → Or (Paced ℕ ℕ) → Numbers
-stepSaid w (no n) =
+-- What a step hands out: a pair's key and value, or its key's offset and length, with the walk moved on and the examined number.
+abbrev pub handed : ℕ → ℕ → ℕ → ℕ → ℕ → ℕ → Numbers
+handed k v o l x e =
+    record { refusal = 0; case = 14; key = k; value = v; slot = 0; examined = e; walk = x; offset = o; length = l }
+
+-- An integer map hands out key and value.
+abbrev pub pairHanded : ℕ → ℕ → ℕ → ℕ → Numbers
+pairHanded k v x e = handed k v 0 0 x e
+
+-- An integer set hands out the key.
+abbrev pub keyHanded : ℕ → Unit {0} → ℕ → ℕ → Numbers
+keyHanded k v x e = handed k 0 0 0 x e
+
+-- A walk's step from w: what it hands out, nothing or done, with the walk moved on; a refusal with the walk as it came.
+unfoldable pub stepSaid : {K W : Type 0} → (K → W → ℕ → ℕ → Numbers) → ℕ → Or (Paced K W) → Numbers
+stepSaid hand w (no n) =
     record { refusal = n; case = 0; key = 0; value = 0; slot = 0; examined = 0; walk = w; offset = 0; length = 0 }
-stepSaid w (ok (pair k v x e)) =
-    record { refusal = 0; case = 14; key = k; value = v; slot = 0; examined = e; walk = x; offset = 0; length = 0 }
-stepSaid w (ok (nothing x e)) =
+stepSaid hand w (ok (pair k v x e)) = hand k v x e
+stepSaid hand w (ok (nothing x e)) =
     record { refusal = 0; case = 15; key = 0; value = 0; slot = 0; examined = e; walk = x; offset = 0; length = 0 }
-stepSaid w (ok (done x)) =
+stepSaid hand w (ok (done x)) =
     record { refusal = 0; case = 16; key = 0; value = 0; slot = 0; examined = 0; walk = x; offset = 0; length = 0 }
+
+-- entry: occupied or vacant.
+unfoldable pub enteredSaid : Or (Spot ℕ) → Numbers
+enteredSaid (no n) = saidNo n
+enteredSaid (ok (occupied s v e)) = saidCase 12 0 v s e
+enteredSaid (ok (vacant s e)) = saidCase 13 0 0 s e
+
+-- An occupied handle's get, with its slot: the value.
+unfoldable pub heldSaid : ℕ → Or ℕ → Numbers
+heldSaid s (no n) = saidNo n
+heldSaid s (ok v) = saidCase 17 0 v s 0
+
+-- Its set: the old value.
+unfoldable pub swappedSaid : ℕ → Or ℕ → Numbers
+swappedSaid s (no n) = saidNo n
+swappedSaid s (ok v) = saidCase 18 0 v s 0
+
+-- Its remove: the value that was there.
+unfoldable pub takenSaid : Or ℕ → Numbers
+takenSaid (no n) = saidNo n
+takenSaid (ok v) = saidCase 11 0 v 0 0
+
+-- Its remove_entry: the key too.
+unfoldable pub takenEntrySaid : ℕ → Or ℕ → Numbers
+takenEntrySaid k (no n) = saidNo n
+takenEntrySaid k (ok v) = saidCase 11 k v 0 0
+
+-- A vacant handle's insert, or_insert and insert_entry, with the slot: the value now there.
+unfoldable pub standingSaid : ℕ → Or ℕ → Numbers
+standingSaid s (no n) = saidNo n
+standingSaid s (ok v) = saidCase 19 0 v s 0

@@ -23,7 +23,8 @@ use Rattle.int_entry.specs.declared.Swapped.the-variants as swapped
 use Rattle.int_entry.specs.declared.Standing.the-variants as standing
 use Rattle.ints.specs.Maps.{maps}
 use Rattle.kinds.specs.Told.{told}
-use Rattle.int_entry.specs.Numbers.{heldNumbers, swappedNumbers, swappedSaid, standingNumbers, standingSaid}
+use Rattle.answers.specs.Said.{swappedSaid, standingSaid}
+use Rattle.int_entry.specs.Numbers.{heldNumbers, swappedNumbers, standingNumbers}
 use Rattle.int_entry.specs.Calls.{getOf, setOf, insertOf, placeOf, handleOf, slotOf, orInsertOf, insertEntryOf}
 use Rattle.int_entry.proofs.Grips.{said, left, retold, get-ok, get-no}
 

@@ -26,7 +26,8 @@ use Rattle.int_entry.specs.declared.Taken.the-variants as taken
 use Rattle.int_entry.specs.declared.TakenEntry.the-variants as taken-entry
 use Rattle.ints.specs.Maps.{maps}
 use Rattle.kinds.specs.Told.{told}
-use Rattle.int_entry.specs.Numbers.{heldNumbers, heldSaid, swappedNumbers, swappedSaid, takenNumbers, takenSaid, takenEntryNumbers, takenEntrySaid}
+use Rattle.answers.specs.Said.{heldSaid, swappedSaid, takenSaid, takenEntrySaid}
+use Rattle.int_entry.specs.Numbers.{heldNumbers, swappedNumbers, takenNumbers, takenEntryNumbers}
 use Rattle.int_entry.specs.Calls.{getOf, setOf, removeOf, removeEntryOf}
 
 -- two answers that cannot be equal

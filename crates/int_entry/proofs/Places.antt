@@ -18,7 +18,7 @@ use Rattle.answers.specs.declared.Outcome.{Outcome}
 use Rattle.answers.specs.declared.Outcome.the-variants as outcome
 use Rattle.answers.specs.Refusals.{numberOf}
 use Rattle.answers.specs.Numbers.{outcomeNumbers}
-use Rattle.answers.specs.Said.{doneSaid}
+use Rattle.answers.specs.Said.{doneSaid, enteredSaid, standingSaid}
 use Rattle.ints.specs.declared.Probed.{Probed}
 use Rattle.ints.specs.declared.Probed.the-variants as probed
 use Rattle.kinds.specs.Columns.{values}
@@ -31,7 +31,7 @@ use Rattle.int_entry.specs.declared.Entered.the-variants as entered
 use Rattle.int_entry.specs.declared.Standing.the-variants as standing
 use Rattle.ints.specs.Maps.{maps}
 use Rattle.kinds.specs.Told.{told}
-use Rattle.int_entry.specs.Numbers.{enteredNumbers, enteredSaid, standingNumbers, standingSaid}
+use Rattle.int_entry.specs.Numbers.{enteredNumbers, standingNumbers}
 use Rattle.int_entry.specs.Calls.{entryOf, freshOf, insertOf}
 
 -- What a vacant handle of slot s is worth where the probing ended so.

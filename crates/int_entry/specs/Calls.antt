@@ -2,14 +2,13 @@
 use Prim.Native.Nat.{ℕ}
 use Rattle.model.specs.Calls.{Handle, on-occupied, on-vacant, entry, occupied-get, after-set, occupied-remove, after-drop, vacancy, vacant-insert, after-fill, or-insert, after-or-insert, insert-entry, after-insert-entry}
 use Rattle.answers.specs.declared.Numbers.{Numbers}
-use Rattle.answers.specs.Said.{doneSaid}
+use Rattle.answers.specs.Said.{doneSaid, enteredSaid, heldSaid, swappedSaid, takenSaid, takenEntrySaid, standingSaid}
 use Rattle.kinds.specs.Columns.{values}
 use Rattle.ints.specs.Memory.{Cells}
 use Rattle.int_entry.specs.declared.Entered.{Entered}
 use Rattle.int_entry.specs.declared.Entered.the-variants.{Occupied, Vacant, Refused}
 use Rattle.ints.specs.Maps.{maps}
 use Rattle.kinds.specs.Told.{Told, told}
-use Rattle.int_entry.specs.Numbers.{enteredSaid, heldSaid, swappedSaid, takenSaid, takenEntrySaid, standingSaid}
 
 -- entry: where the key stands or would go.
 unfoldable pub entryOf : Cells values → ℕ → Numbers

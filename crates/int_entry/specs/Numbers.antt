@@ -1,9 +1,8 @@
--- The numbers that the paper prints for entries and handles: of the answers that are declared here, and of what the theory's calls say.
+-- The numbers that the paper prints for the answers of entries and handles.
 use Prim.Native.Nat.{ℕ}
-use Rattle.model.specs.Calls.{Or, no, ok, Spot, occupied, vacant}
 use Rattle.answers.specs.declared.Numbers.{Numbers}
 use Rattle.answers.specs.Numbers.{refusalNumbers}
-use Rattle.answers.specs.Said.{saidNo, saidCase}
+use Rattle.answers.specs.Said.{saidCase}
 use Rattle.int_entry.specs.declared.Entered.{Entered}
 use Rattle.int_entry.specs.declared.Entered.the-variants as entered
 use Rattle.int_entry.specs.declared.Held.{Held}
@@ -23,52 +22,27 @@ enteredNumbers (entered.Occupied h v e) = saidCase 12 0 v (h .slot) e
 enteredNumbers (entered.Vacant h e) = saidCase 13 0 0 (h .slot) e
 enteredNumbers (entered.Refused r) = refusalNumbers r
 
-unfoldable pub enteredSaid : Or (Spot ℕ) → Numbers
-enteredSaid (no n) = saidNo n
-enteredSaid (ok (occupied s v e)) = saidCase 12 0 v s e
-enteredSaid (ok (vacant s e)) = saidCase 13 0 0 s e
-
 -- Of an occupied handle's get: case 17, the value and the handle's slot.
 unfoldable pub heldNumbers : Held → Numbers
 heldNumbers (held.Value v h) = saidCase 17 0 v (h .slot) 0
 heldNumbers (held.Refused r) = refusalNumbers r
-
-unfoldable pub heldSaid : ℕ → Or ℕ → Numbers
-heldSaid s (no n) = saidNo n
-heldSaid s (ok v) = saidCase 17 0 v s 0
 
 -- Of its set: case 18, the old value and the handle's slot.
 unfoldable pub swappedNumbers : Swapped → Numbers
 swappedNumbers (swapped.Was v h) = saidCase 18 0 v (h .slot) 0
 swappedNumbers (swapped.Refused r) = refusalNumbers r
 
-unfoldable pub swappedSaid : ℕ → Or ℕ → Numbers
-swappedSaid s (no n) = saidNo n
-swappedSaid s (ok v) = saidCase 18 0 v s 0
-
 -- Of its remove: case 11, the value.
 unfoldable pub takenNumbers : Taken → Numbers
 takenNumbers (taken.Removed v) = saidCase 11 0 v 0 0
 takenNumbers (taken.Refused r) = refusalNumbers r
-
-unfoldable pub takenSaid : Or ℕ → Numbers
-takenSaid (no n) = saidNo n
-takenSaid (ok v) = saidCase 11 0 v 0 0
 
 -- Of its remove_entry: case 11, the key and the value.
 unfoldable pub takenEntryNumbers : TakenEntry → Numbers
 takenEntryNumbers (taken-entry.Removed k v) = saidCase 11 k v 0 0
 takenEntryNumbers (taken-entry.Refused r) = refusalNumbers r
 
-unfoldable pub takenEntrySaid : ℕ → Or ℕ → Numbers
-takenEntrySaid k (no n) = saidNo n
-takenEntrySaid k (ok v) = saidCase 11 k v 0 0
-
 -- Of a vacant handle's insert, or_insert and insert_entry: case 19, the value now in the slot, and the handle's slot.
 unfoldable pub standingNumbers : Standing → Numbers
 standingNumbers (standing.Now h v) = saidCase 19 0 v (h .slot) 0
 standingNumbers (standing.Refused r) = refusalNumbers r
-
-unfoldable pub standingSaid : ℕ → Or ℕ → Numbers
-standingSaid s (no n) = saidNo n
-standingSaid s (ok v) = saidCase 19 0 v s 0

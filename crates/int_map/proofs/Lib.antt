@@ -1,4 +1,3 @@
 -- The laws of integer maps.
 pub mod Laws
 pub mod Settled
-pub mod Demands

@@ -3,4 +3,3 @@ pub mod Laws
 pub mod Steps
 pub mod Equal
 pub mod Settled
-pub mod Demands

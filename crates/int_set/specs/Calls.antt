@@ -4,12 +4,11 @@ use Rattle.model.specs.Calls.{get, entry, after-insert, remove, after-remove, c
 use Rattle.model.specs.Machine.{stepping}
 use Rattle.model.specs.Walk.{paceTo}
 use Rattle.answers.specs.declared.Numbers.{Numbers}
-use Rattle.answers.specs.Said.{doneSaid, countSaid, emptySaid, roomSaid, memberSaid, containedSaid, addedSaid, droppedSaid}
+use Rattle.answers.specs.Said.{doneSaid, countSaid, emptySaid, roomSaid, memberSaid, containedSaid, addedSaid, droppedSaid, keyHanded, stepSaid}
 use Rattle.kinds.specs.Columns.{nothing}
 use Rattle.ints.specs.Memory.{Cells}
 use Rattle.int_set.specs.Memory.{sets}
 use Rattle.kinds.specs.Told.{Told, told}
-use Rattle.int_set.specs.Numbers.{memberStepSaid}
 
 -- make and clear: every mark and word becomes 0.
 unfoldable pub makeOf : Cells nothing → Told (Cells nothing)
@@ -53,8 +52,8 @@ copyOf to from = told (doneSaid (copy sets to from)) (after-copy sets to from)
 
 -- The slots of a step from `at`, so many.
 unfoldable pub paceOf : Cells nothing → ℕ → ℕ → Numbers
-paceOf m at slots = memberStepSaid at (paceTo (sets .slots m) at slots)
+paceOf m at slots = stepSaid keyHanded at (paceTo (sets .slots m) at slots)
 
 -- A walk's step with a budget: the key of the first live slot within it, nothing, or done; the walk moved on.
 unfoldable pub stepOf : Cells nothing → ℕ → ℕ → Numbers
-stepOf m at budget = memberStepSaid at (stepping sets m at budget)
+stepOf m at budget = stepSaid keyHanded at (stepping sets m at budget)

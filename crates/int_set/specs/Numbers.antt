@@ -1,7 +1,5 @@
 -- The numbers that the paper prints for a step of a walk of a set.
 use Prim.Native.Nat.{ℕ}
-use Rattle.model.specs.Calls.{Or, no, ok}
-use Rattle.model.specs.Walk as model
 use Rattle.answers.specs.Refusals.{numberOf}
 use Rattle.answers.specs.declared.Numbers.{Numbers}
 use Rattle.int_set.specs.declared.Paced.{Paced}
@@ -18,10 +16,3 @@ pacedNumbers w e (Refused r) = record { refusal = numberOf r; case = 0; key = 0;
 -- A step's numbers: its walk and its examined number are told whatever it hands out.
 unfoldable pub stepNumbers : Step → Numbers
 stepNumbers s = pacedNumbers (s .walk .at) (s .examined) (s .out)
-
--- What the theory's step from w says: the key, nothing or done, with the walk moved on; a refusal with the walk as it came.
-unfoldable pub memberStepSaid : ℕ → Or (model.Paced ℕ (Unit {0})) → Numbers
-memberStepSaid w (no n) = record { refusal = n; case = 0; key = 0; value = 0; slot = 0; examined = 0; walk = w; offset = 0; length = 0 }
-memberStepSaid w (ok (model.pair k v x e)) = record { refusal = 0; case = 14; key = k; value = 0; slot = 0; examined = e; walk = x; offset = 0; length = 0 }
-memberStepSaid w (ok (model.nothing x e)) = record { refusal = 0; case = 15; key = 0; value = 0; slot = 0; examined = e; walk = x; offset = 0; length = 0 }
-memberStepSaid w (ok (model.done x)) = record { refusal = 0; case = 16; key = 0; value = 0; slot = 0; examined = 0; walk = x; offset = 0; length = 0 }

@@ -8,7 +8,8 @@ ghost use Rattle.answers.specs.Refusals.{numberOf};
 ghost use Rattle.answers.specs.Numbers.{outcomeNumbers, countedNumbers, emptinessNumbers, reservedNumbers, memberNumbers, containedNumbers, addedNumbers, droppedNumbers};
 ghost use Rattle.int_set.specs.Memory.{memory};
 ghost use Rattle.kinds.specs.Told.{told};
-ghost use Rattle.int_set.specs.Numbers.{memberStepSaid, stepNumbers};
+ghost use Rattle.answers.specs.Said.{keyHanded, stepSaid};
+ghost use Rattle.int_set.specs.Numbers.{stepNumbers};
 ghost use Rattle.int_set.specs.Calls.{makeOf, capacityOf, lenOf, isEmptyOf, reserveOf, getOf, containsOf, insertOf, removeOf, copyOf, paceOf, stepOf};
 use answers::Added;
 use answers::Contained;
@@ -200,7 +201,7 @@ pub struct Step {
 
 // A refused step: the walk as it came, and 0 examined.
 fn refused(at: usize, why: Refusal) -> Step
-    ensures { λ r. ⌜ stepNumbers r ≡ memberStepSaid at (no (numberOf why)) ⌝ }
+    ensures { λ r. ⌜ stepNumbers r ≡ stepSaid keyHanded at (no (numberOf why)) ⌝ }
 {
     Step {
         walk: Walk { at },

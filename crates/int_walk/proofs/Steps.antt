@@ -11,7 +11,7 @@ use Rattle.model.specs.Machine.{stepping}
 use Rattle.model.specs.Calls.{no, need, pass}
 use Rattle.model.specs.Walk.{reachOf, pace, step}
 use Rattle.model.proofs.Walk.{reach-high}
-use Rattle.answers.specs.Said.{stepSaid}
+use Rattle.answers.specs.Said.{pairHanded, stepSaid}
 use Rattle.ints.specs.declared.Next.{Next}
 use Rattle.ints.specs.declared.Next.the-variants as next
 use Rattle.kinds.specs.Columns.{values}
@@ -41,7 +41,7 @@ module _ (marks keys vs : List ℕ) (at : ℕ) where
     unfolding paceOf stepSaid stepNumbers pacedNumbers
     pace-live {j} q = rw (nexting-pace values (memory marks keys vs) at g, ← p, q, add-one j)
 
-    pub pace-bad : r ≡ next.Bad → (s : Step) → stepNumbers s ≡ stepSaid at (no 5) → stepNumbers s ≡ paceOf (memory marks keys vs) at g
+    pub pace-bad : r ≡ next.Bad → (s : Step) → stepNumbers s ≡ stepSaid pairHanded at (no 5) → stepNumbers s ≡ paceOf (memory marks keys vs) at g
     unfolding paceOf
     pace-bad q s e = e ∙ (rw (nexting-pace values (memory marks keys vs) at g, ← p, q))
 
@@ -51,12 +51,12 @@ module _ (marks keys vs : List ℕ) (at : ℕ) where
 
   -- the tests of a step, in order
   module _ (budget : ℕ) {b : Bool} (p : b ≡ fittingMap marks keys vs) where
-    pub step-unfit : b ≡ false → (s : Step) → stepNumbers s ≡ stepSaid at (no 1) → stepNumbers s ≡ stepOf (memory marks keys vs) at budget
+    pub step-unfit : b ≡ false → (s : Step) → stepNumbers s ≡ stepSaid pairHanded at (no 1) → stepNumbers s ≡ stepOf (memory marks keys vs) at budget
     unfolding stepOf stepping need
     step-unfit q s e = e ∙ (rw (unfit marks keys vs p q))
 
     module _ (q : b ≡ true) where
-      pub step-unpaid : budget ≡ 0 → (s : Step) → stepNumbers s ≡ stepSaid at (no 3) → stepNumbers s ≡ stepOf (memory marks keys vs) at budget
+      pub step-unpaid : budget ≡ 0 → (s : Step) → stepNumbers s ≡ stepSaid pairHanded at (no 3) → stepNumbers s ≡ stepOf (memory marks keys vs) at budget
       unfolding stepOf stepping step need
       step-unpaid z s e = e ∙ (rw (fit marks keys vs p q, z))
 
@@ -65,7 +65,7 @@ module _ (marks keys vs : List ℕ) (at : ℕ) where
       pace-fits l e = let (i, j) = same-long marks keys vs p q in (omega (arith, reach-high (length marks) at budget), i, j)
 
       module _ (h : budget ≡ 0 → ⊥) where
-        pub step-beyond : length marks < at → (s : Step) → stepNumbers s ≡ stepSaid at (no 4) → stepNumbers s ≡ stepOf (memory marks keys vs) at budget
+        pub step-beyond : length marks < at → (s : Step) → stepNumbers s ≡ stepSaid pairHanded at (no 4) → stepNumbers s ≡ stepOf (memory marks keys vs) at budget
         unfolding stepOf stepping step need
         step-beyond l s e = e ∙ (rw (fit marks keys vs p q, ne-eqb budget 0 h, lt-leb at (length marks) l))
 

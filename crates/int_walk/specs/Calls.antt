@@ -3,15 +3,15 @@ use Prim.Native.Nat.{ℕ}
 use Rattle.model.specs.Machine.{stepping}
 use Rattle.model.specs.Walk.{paceTo}
 use Rattle.answers.specs.declared.Numbers.{Numbers}
-use Rattle.answers.specs.Said.{stepSaid}
+use Rattle.answers.specs.Said.{pairHanded, stepSaid}
 use Rattle.kinds.specs.Columns.{values}
 use Rattle.ints.specs.Memory.{Cells}
 use Rattle.ints.specs.Maps.{maps}
 
 -- The slots of a step from `at`, so many.
 unfoldable pub paceOf : Cells values → ℕ → ℕ → Numbers
-paceOf m at slots = stepSaid at (paceTo (maps .slots m) at slots)
+paceOf m at slots = stepSaid pairHanded at (paceTo (maps .slots m) at slots)
 
 -- A walk's step with a budget: the pair of the first live slot within it, nothing, or done; the walk moved on.
 unfoldable pub stepOf : Cells values → ℕ → ℕ → Numbers
-stepOf m at budget = stepSaid at (stepping maps m at budget)
+stepOf m at budget = stepSaid pairHanded at (stepping maps m at budget)

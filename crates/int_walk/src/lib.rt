@@ -5,7 +5,7 @@ ghost use lib.ListN.{length};
 ghost use Rattle.model.specs.Calls.{no};
 ghost use Rattle.model.specs.Walk.{reachOf};
 ghost use Rattle.answers.specs.Refusals.{numberOf};
-ghost use Rattle.answers.specs.Said.{stepSaid};
+ghost use Rattle.answers.specs.Said.{pairHanded, stepSaid};
 ghost use Rattle.ints.specs.Memory.{memory};
 ghost use Rattle.int_walk.specs.Calls.{paceOf, stepOf};
 ghost use Rattle.int_walk.specs.Numbers.{stepNumbers};
@@ -34,7 +34,7 @@ pub struct Step {
 
 // A refused step: the walk as it came, and 0 examined.
 fn refused(at: usize, why: Refusal) -> Step
-    ensures { λ r. ⌜ stepNumbers r ≡ stepSaid at (no (numberOf why)) ⌝ }
+    ensures { λ r. ⌜ stepNumbers r ≡ stepSaid pairHanded at (no (numberOf why)) ⌝ }
 {
     Step {
         walk: Walk { at },

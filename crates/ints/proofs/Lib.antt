@@ -1,6 +1,7 @@
 -- The laws of integer tables.
 pub mod Bridge
 pub mod Lawful
+pub mod Places
 pub mod Marks
 pub mod Sizes
 pub mod Trail

@@ -1,5 +1,6 @@
 -- The definitions of integer tables.
 pub mod Memory
+pub mod Places
 pub mod Probing
 pub mod Scanning
 pub mod Seeking

@@ -1,3 +1,4 @@
 -- The definitions that all kinds of tables share.
 pub mod Columns
 pub mod Told
+pub mod Published

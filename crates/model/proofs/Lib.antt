@@ -20,3 +20,5 @@ pub mod Plain
 pub mod Demand1
 pub mod Least
 pub mod Laws
+pub mod Running
+pub mod Places

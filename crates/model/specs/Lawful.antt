@@ -35,6 +35,13 @@ pub record Lawful {K W : Type 0} (M : Store K W) : Type 1 where
   -- wipe gives every slot mark 0
   pub wipe-wrote : (m : M .State) → M .sized m ≡ true → Wrote M Good m (M .wipe m) made
 
+-- What a store owes on any memory without damage: a value written over, and a key put into a free slot where its bytes fit, change the slots as they should and do no damage.
+pub record Steady {K W : Type 0} (M : Store K W) : Type 0 where
+  pub homes : (m : M .State) (k : K) → M .sized m ≡ true → M .home m k < M .size m
+  pub room : (m : M .State) → M .sized m ≡ true → M .harmed m ≡ false → used M m ≤ M .bytes m
+  pub over-steady : (m : M .State) (i : ℕ) (k : K) (v w : W) → M .sized m ≡ true → M .harmed m ≡ false → i < M .size m → M .slots m i ≡ live k w → Wrote M (λ n. M .harmed n ≡ false) m (M .over m i v) (put (M .slots m) i (live k v))
+  pub fill-steady : (m : M .State) (i : ℕ) (k : K) (v : W) → M .sized m ≡ true → M .harmed m ≡ false → i < M .size m → frees (M .slots m i) ≡ true → used M m + M .weight k ≤ M .bytes m → Wrote M (λ n. M .harmed n ≡ false) m (M .fill m i k v) (put (M .slots m) i (live k v))
+
 -- A sound memory: right sizes, good, and sound slots.
 pub record Healthy {K W : Type 0} (M : Store K W) (L : Lawful M) (m : M .State) : Type 0 where
   pub sized : M .sized m ≡ true

@@ -14,3 +14,5 @@ pub mod Tables
 pub mod Iterated
 pub mod Plain
 pub mod Demand1
+pub mod Running
+pub mod Places

@@ -3,7 +3,8 @@ use borrow.Author.Tests.{eq-eqb, ne-eqb}
 use Rattle.model.specs.Calls.{need, gripOn}
 use Rattle.ints.specs.Memory.{cell}
 use Rattle.ints.proofs.Marks.{cell-bad}
-use Rattle.int_entry.specs.Numbers.{heldNumbers, heldSaid}
+use Rattle.answers.specs.Said.{heldSaid}
+use Rattle.int_entry.specs.Numbers.{heldNumbers}
 use Rattle.int_entry.proofs.Grips.{idle}
 use Rattle.int_entry.proofs.held_in.Statement.{statement}
 use Rattle.int_entry.proofs.held_in.Tie as tie

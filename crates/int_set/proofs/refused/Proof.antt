@@ -1,11 +1,12 @@
 -- `int_set::refused` meets its contract: the refusal's number, the walk as it came, zeros elsewhere.
 use mathlib.Core.Path.{refl}
-use Rattle.int_set.specs.Numbers.{pacedNumbers, stepNumbers, memberStepSaid}
+use Rattle.answers.specs.Said.{stepSaid}
+use Rattle.int_set.specs.Numbers.{pacedNumbers, stepNumbers}
 use Rattle.int_set.proofs.refused.Statement.{statement}
 use Rattle.int_set.proofs.refused.Tie as tie
 
 returns : tie.Need-returns
-unfolding stepNumbers pacedNumbers memberStepSaid
+unfolding stepNumbers pacedNumbers stepSaid
 returns c = refl
 
 pub refused-spec : {M : Type 1} → statement M

@@ -1,0 +1,3 @@
+-- The three demands for each kind.
+pub mod IntMap
+pub mod IntSet

@@ -1,0 +1,3 @@
+-- The published calls of each kind.
+pub mod IntMap
+pub mod IntSet
