@@ -1,0 +1,7 @@
+-- The laws of byte tables.
+pub mod Arena
+pub mod Held
+pub mod Lawful
+pub mod Paper
+pub mod Tiled
+pub mod Writes
