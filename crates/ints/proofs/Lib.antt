@@ -1,7 +1,5 @@
 -- The laws of integer tables.
 pub mod Bridge
 pub mod Lawful
-pub mod Marks
 pub mod Sizes
-pub mod Trail
 pub mod Seeking

@@ -1,3 +1,6 @@
 -- The laws that all kinds of tables share.
+pub mod Bridge
 pub mod Columns
+pub mod Scanning
 pub mod Settled
+pub mod Trail
