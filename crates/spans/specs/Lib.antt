@@ -1,3 +1,4 @@
 -- The definitions of byte tables.
 pub mod Keys
+pub mod Marks
 pub mod Memory

@@ -1,0 +1,4 @@
+-- The laws of byte tables.
+pub mod Equal
+pub mod Marks
+pub mod Sizes
