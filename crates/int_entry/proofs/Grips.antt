@@ -15,7 +15,8 @@ use Rattle.answers.specs.declared.Refusal.the-variants.{Sizes, BadHandle}
 use Rattle.answers.specs.declared.Numbers.{Numbers}
 use Rattle.answers.specs.Refusals.{numberOf}
 use Rattle.kinds.specs.Columns.{values}
-use Rattle.ints.specs.Memory.{Cells, cell, memory}
+use Rattle.kinds.specs.Marks.{cell}
+use Rattle.ints.specs.Memory.{Cells, memory}
 use Rattle.ints.specs.Seeking.{fittingMap}
 use Rattle.int_entry.specs.declared.Occupied.{Occupied}
 use Rattle.int_entry.specs.declared.Held.{Held}

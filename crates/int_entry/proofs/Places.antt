@@ -19,13 +19,14 @@ use Rattle.answers.specs.declared.Outcome.the-variants as outcome
 use Rattle.answers.specs.Refusals.{numberOf}
 use Rattle.answers.specs.Numbers.{outcomeNumbers}
 use Rattle.answers.specs.Said.{doneSaid, enteredSaid, standingSaid}
-use Rattle.ints.specs.declared.Probed.{Probed}
-use Rattle.ints.specs.declared.Probed.the-variants as probed
+use Rattle.kinds.specs.declared.Probed.{Probed}
+use Rattle.kinds.specs.declared.Probed.the-variants as probed
 use Rattle.kinds.specs.Columns.{values}
 use Rattle.ints.specs.Memory.{Cells, fitting, memory}
-use Rattle.ints.specs.Probing.{along}
+use Rattle.kinds.specs.Probing.{along}
 use Rattle.ints.specs.Seeking.{seeking, seekingMap}
-use Rattle.ints.proofs.Bridge.{spotOf, sized-is, probing-path}
+use Rattle.kinds.proofs.Bridge.{spotOf}
+use Rattle.ints.proofs.Bridge.{sized-is, probing-path}
 use Rattle.ints.proofs.Seeking.{entry-seeking, sought-hit, sought-free}
 use Rattle.int_entry.specs.declared.Entered.the-variants as entered
 use Rattle.int_entry.specs.declared.Standing.the-variants as standing

@@ -3,7 +3,8 @@ ghost use mathlib.Core.Path.{_≡_};
 ghost use lib.ListN.{length};
 ghost use Rattle.model.specs.Calls.{gripOn};
 ghost use Rattle.answers.specs.Numbers.{outcomeNumbers};
-ghost use Rattle.ints.specs.Memory.{cell, memory};
+ghost use Rattle.kinds.specs.Marks.{cell};
+ghost use Rattle.ints.specs.Memory.{memory};
 ghost use Rattle.ints.specs.Maps.{maps};
 ghost use Rattle.kinds.specs.Told.{told};
 ghost use Rattle.answers.specs.Said.{heldSaid};
@@ -11,7 +12,7 @@ ghost use Rattle.int_entry.specs.Numbers.{enteredNumbers, heldNumbers, s
 ghost use Rattle.int_entry.specs.Calls.{entryOf, getOf, setOf, removeOf, removeEntryOf, freshOf, insertOf, placeOf, handleOf, orInsertOf, insertEntryOf};
 use answers::Outcome;
 use answers::Refusal;
-use ints::Probed;
+use kinds::Probed;
 
 // A handle of a slot that holds a key.
 pub struct Occupied {

@@ -27,16 +27,17 @@ use Rattle.answers.specs.Refusals.{numberOf}
 use Rattle.answers.specs.Numbers.{outcomeNumbers, countedNumbers, emptinessNumbers, reservedNumbers, gotNumbers, containedNumbers, insertedNumbers, removedNumbers}
 use Rattle.answers.specs.Said.{doneSaid, countSaid, emptySaid, roomSaid, gotSaid, containedSaid, insertedSaid, removedSaid}
 use Rattle.arrays.specs.Whole.{copied}
-use Rattle.ints.specs.declared.Probed.{Probed}
-use Rattle.ints.specs.declared.Probed.the-variants.{Hit, Free, Full, Refused}
-use Rattle.ints.specs.declared.Scanned.{Scanned}
-use Rattle.ints.specs.declared.Scanned.the-variants as scanned
+use Rattle.kinds.specs.declared.Probed.{Probed}
+use Rattle.kinds.specs.declared.Probed.the-variants.{Hit, Free, Full, Refused}
+use Rattle.kinds.specs.declared.Scanned.{Scanned}
+use Rattle.kinds.specs.declared.Scanned.the-variants as scanned
 use Rattle.kinds.specs.Columns.{values}
 use Rattle.ints.specs.Memory.{fitting, memory}
 use Rattle.ints.specs.Scanning.{scanning}
 use Rattle.ints.specs.Seeking.{fittingMap, seekingMap}
 use Rattle.ints.proofs.Sizes.{fitting-says}
-use Rattle.ints.proofs.Bridge.{sized-is, seenOf, spotOf, scan-live, scan-bad}
+use Rattle.kinds.proofs.Bridge.{seenOf, spotOf}
+use Rattle.ints.proofs.Bridge.{sized-is, scan-live, scan-bad}
 use Rattle.ints.proofs.Seeking.{get-seeking, remove-seeking, entry-seeking, sought-hit, sought-free}
 use Rattle.ints.specs.Maps.{maps}
 use Rattle.kinds.specs.Told.{told}

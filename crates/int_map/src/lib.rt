@@ -17,8 +17,8 @@ use arrays::clear_bytes;
 use arrays::clear_words;
 use arrays::copy_bytes;
 use arrays::copy_words;
-use ints::Probed;
-use ints::Scanned;
+use kinds::Probed;
+use kinds::Scanned;
 
 // Makes an empty map of the lent arrays.
 pub fn make(marks: &mut [u8], keys: &mut [u64], values: &mut [u64]) -> Outcome

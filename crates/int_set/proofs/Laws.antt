@@ -22,16 +22,17 @@ use Rattle.answers.specs.Refusals.{numberOf}
 use Rattle.answers.specs.Numbers.{outcomeNumbers, countedNumbers, emptinessNumbers, reservedNumbers}
 use Rattle.answers.specs.Said.{doneSaid, countSaid, emptySaid, roomSaid, memberSaid, containedSaid, addedSaid, droppedSaid}
 use Rattle.arrays.specs.Whole.{copied}
-use Rattle.ints.specs.declared.Probed.{Probed}
-use Rattle.ints.specs.declared.Probed.the-variants.{Hit, Free}
-use Rattle.ints.specs.declared.Scanned.{Scanned}
-use Rattle.ints.specs.declared.Scanned.the-variants as scanned
+use Rattle.kinds.specs.declared.Probed.{Probed}
+use Rattle.kinds.specs.declared.Probed.the-variants.{Hit, Free}
+use Rattle.kinds.specs.declared.Scanned.{Scanned}
+use Rattle.kinds.specs.declared.Scanned.the-variants as scanned
 use Rattle.kinds.specs.Columns.{nothing}
 use Rattle.ints.specs.Memory.{fitting}
 use Rattle.ints.specs.Probing.{probing}
 use Rattle.ints.specs.Scanning.{scanning}
 use Rattle.ints.proofs.Sizes.{fitting-says}
-use Rattle.ints.proofs.Bridge.{sized-is, seenOf, spotOf, get-probing, remove-probing, entry-probing, hit-slot, free-slot, scan-live, scan-bad}
+use Rattle.kinds.proofs.Bridge.{seenOf, spotOf}
+use Rattle.ints.proofs.Bridge.{sized-is, get-probing, remove-probing, entry-probing, hit-slot, free-slot, scan-live, scan-bad}
 use Rattle.int_set.specs.Memory.{sets, memory}
 use Rattle.kinds.specs.Told.{told}
 use Rattle.int_set.specs.Calls.{makeOf, capacityOf, lenOf, isEmptyOf, reserveOf, getOf, containsOf, insertOf, removeOf, copyOf}

@@ -11,8 +11,8 @@ use Rattle.model.specs.Machine.{stepping}
 use Rattle.model.specs.Calls.{no, need, pass}
 use Rattle.model.specs.Walk.{reachOf, pace, step}
 use Rattle.model.proofs.Walk.{reach-high}
-use Rattle.ints.specs.declared.Next.{Next}
-use Rattle.ints.specs.declared.Next.the-variants as next
+use Rattle.kinds.specs.declared.Next.{Next}
+use Rattle.kinds.specs.declared.Next.the-variants as next
 use Rattle.kinds.specs.Columns.{nothing}
 use Rattle.ints.specs.Memory.{fitting}
 use Rattle.ints.specs.Scanning.{nexting}

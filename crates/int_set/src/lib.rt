@@ -24,9 +24,9 @@ use arrays::clear_bytes;
 use arrays::clear_words;
 use arrays::copy_bytes;
 use arrays::copy_words;
-use ints::Next;
-use ints::Probed;
-use ints::Scanned;
+use kinds::Next;
+use kinds::Probed;
+use kinds::Scanned;
 
 // Makes an empty set of the lent arrays.
 pub fn make(marks: &mut [u8], keys: &mut [u64]) -> Outcome

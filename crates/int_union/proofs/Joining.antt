@@ -17,8 +17,8 @@ use Rattle.answers.specs.declared.Outcome.the-variants as outcome
 use Rattle.answers.specs.Refusals.{numberOf}
 use Rattle.answers.specs.Numbers.{outcomeNumbers}
 use Rattle.answers.specs.Said.{doneSaid}
-use Rattle.ints.specs.declared.Scanned.{Scanned}
-use Rattle.ints.specs.declared.Scanned.the-variants as scanned
+use Rattle.kinds.specs.declared.Scanned.{Scanned}
+use Rattle.kinds.specs.declared.Scanned.the-variants as scanned
 use Rattle.kinds.specs.Columns.{values}
 use Rattle.ints.specs.Memory.{Cells, memory}
 use Rattle.ints.specs.Scanning.{scanning}

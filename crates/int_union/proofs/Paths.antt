@@ -8,11 +8,11 @@ use lib.Dec.{eqb}
 use lib.ListN.{length}
 use Rattle.model.specs.Store.{path}
 use Rattle.digest.specs.Home.{homeOfWord, slotsFit}
-use Rattle.ints.specs.declared.Probed.{Probed}
-use Rattle.ints.specs.declared.Probed.the-variants as probed
+use Rattle.kinds.specs.declared.Probed.{Probed}
+use Rattle.kinds.specs.declared.Probed.the-variants as probed
 use Rattle.kinds.specs.Columns.{values}
 use Rattle.ints.specs.Memory.{fitting, memory}
-use Rattle.ints.specs.Probing.{along}
+use Rattle.kinds.specs.Probing.{along}
 use Rattle.ints.specs.Seeking.{seeking, seekingMap, fittingMap}
 use Rattle.model.proofs.Cases.{both}
 use Rattle.ints.proofs.Bridge.{sized-is, probing-path}

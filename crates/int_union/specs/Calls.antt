@@ -6,7 +6,8 @@ use Rattle.model.specs.Calls.{storeAll, lacking, union, after-union}
 use Rattle.answers.specs.declared.Numbers.{Numbers}
 use Rattle.answers.specs.Said.{doneSaid}
 use Rattle.kinds.specs.Columns.{values}
-use Rattle.ints.specs.Memory.{Cells, cell}
+use Rattle.kinds.specs.Marks.{cell}
+use Rattle.ints.specs.Memory.{Cells}
 use Rattle.ints.specs.Maps.{maps}
 use Rattle.kinds.specs.Told.{Told, told}
 

@@ -11,8 +11,8 @@ ghost use Rattle.kinds.specs.Told.{told};
 ghost use Rattle.int_union.specs.Calls.{unionOf, planOf, lackOf, lacksOf, slotStored, allStored};
 use answers::Outcome;
 use answers::Refusal;
-use ints::Probed;
-use ints::Scanned;
+use kinds::Probed;
+use kinds::Scanned;
 
 // What a slot of the right with this mark and key needs of the left: one slot where it is live and its key is absent.
 fn lack(marks: &[u8], keys: &[u64], values: &[u64], mark: u8, key: u64) -> usize

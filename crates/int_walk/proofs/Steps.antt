@@ -12,13 +12,13 @@ use Rattle.model.specs.Calls.{no, need, pass}
 use Rattle.model.specs.Walk.{reachOf, pace, step}
 use Rattle.model.proofs.Walk.{reach-high}
 use Rattle.answers.specs.Said.{pairHanded, stepSaid}
-use Rattle.ints.specs.declared.Next.{Next}
-use Rattle.ints.specs.declared.Next.the-variants as next
+use Rattle.kinds.specs.declared.Next.{Next}
+use Rattle.kinds.specs.declared.Next.the-variants as next
 use Rattle.kinds.specs.Columns.{values}
 use Rattle.ints.specs.Memory.{memory}
 use Rattle.ints.specs.Scanning.{nexting}
 use Rattle.ints.specs.Seeking.{fittingMap}
-use Rattle.ints.proofs.Bridge.{nexting-pace}
+use Rattle.ints.proofs.Bridge.{paced-by}
 use Rattle.int_walk.specs.declared.Paced.the-variants.{Pair, Nothing, Done}
 use Rattle.int_walk.specs.declared.Step.{Step}
 use Rattle.int_walk.specs.Calls.{paceOf, stepOf}
@@ -39,15 +39,15 @@ module _ (marks keys vs : List ℕ) (at : ℕ) where
   module _ (g : ℕ) {r : Next} (p : r ≡ nexting marks at (at + g)) where
     pub pace-live : {j : ℕ} → r ≡ next.Live j → stepNumbers (record { walk = record { at = j + 1 }; out = Pair (getD keys j 0) (getD vs j 0); examined = j + 1 - at }) ≡ paceOf (memory marks keys vs) at g
     unfolding paceOf stepSaid stepNumbers pacedNumbers
-    pace-live {j} q = rw (nexting-pace values (memory marks keys vs) at g, ← p, q, add-one j)
+    pace-live {j} q = rw (paced-by values (memory marks keys vs) at g p q, add-one j)
 
     pub pace-bad : r ≡ next.Bad → (s : Step) → stepNumbers s ≡ stepSaid pairHanded at (no 5) → stepNumbers s ≡ paceOf (memory marks keys vs) at g
     unfolding paceOf
-    pace-bad q s e = e ∙ (rw (nexting-pace values (memory marks keys vs) at g, ← p, q))
+    pace-bad q s e = e ∙ (rw (paced-by values (memory marks keys vs) at g p q))
 
     pub pace-none : r ≡ next.Nothing → stepNumbers (record { walk = record { at = at + g }; out = Nothing; examined = g }) ≡ paceOf (memory marks keys vs) at g
     unfolding paceOf stepSaid stepNumbers pacedNumbers
-    pace-none q = rw (nexting-pace values (memory marks keys vs) at g, ← p, q)
+    pace-none q = rw (paced-by values (memory marks keys vs) at g p q)
 
   -- the tests of a step, in order
   module _ (budget : ℕ) {b : Bool} (p : b ≡ fittingMap marks keys vs) where

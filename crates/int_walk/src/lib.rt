@@ -10,7 +10,7 @@ ghost use Rattle.ints.specs.Memory.{memory};
 ghost use Rattle.int_walk.specs.Calls.{paceOf, stepOf};
 ghost use Rattle.int_walk.specs.Numbers.{stepNumbers};
 use answers::Refusal;
-use ints::Next;
+use kinds::Next;
 
 // A walk of a map is the slot where it stands.
 pub struct Walk {

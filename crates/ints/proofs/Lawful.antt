@@ -15,7 +15,8 @@ use Rattle.digest.specs.Home.{homeOfWord, slotsFit}
 use Rattle.digest.proofs.Bounds.{home-word-below}
 use Rattle.kinds.specs.Columns.{Column}
 use Rattle.kinds.proofs.Columns.{Orderly}
-use Rattle.ints.specs.Memory.{Cells, cell, cells}
+use Rattle.kinds.specs.Marks.{cell}
+use Rattle.ints.specs.Memory.{Cells, cells}
 
 zeros : (n j : ℕ) → _≡_ {A = ℕ} (getD (replicate n 0) j 0) 0
 zeros zero j = refl

@@ -2,7 +2,5 @@
 pub mod Bridge
 pub mod Lawful
 pub mod Places
-pub mod Marks
 pub mod Sizes
-pub mod Trail
 pub mod Seeking

@@ -11,13 +11,14 @@ use Rattle.model.specs.Store.{Store}
 use Rattle.answers.specs.declared.Refusal.the-variants.{Sizes}
 use Rattle.model.specs.Calls.{no, need, get, entry, remove}
 use Rattle.model.proofs.Cases.{by-bool}
-use Rattle.ints.specs.declared.Probed.{Probed}
-use Rattle.ints.specs.declared.Probed.the-variants.{Hit, Free, Refused}
+use Rattle.kinds.specs.declared.Probed.{Probed}
+use Rattle.kinds.specs.declared.Probed.the-variants.{Hit, Free, Refused}
 use Rattle.kinds.specs.Columns.{Column, values}
 use Rattle.ints.specs.Memory.{Cells, cells, fitting, memory}
 use Rattle.ints.specs.Probing.{probing}
 use Rattle.ints.specs.Seeking.{seeking, fittingMap, seekingMap}
-use Rattle.ints.proofs.Bridge.{seenOf, spotOf, sized-is, sized-short, get-probing, remove-probing, entry-probing, hit-slot, free-slot}
+use Rattle.kinds.proofs.Bridge.{seenOf, spotOf}
+use Rattle.ints.proofs.Bridge.{sized-is, sized-short, get-probing, remove-probing, entry-probing, hit-slot, free-slot}
 
 module _ {K W : Type 0} (M : Store K W) (m : M .State) (k : K) (e : M .sized m ≡ false) where
   get-unsized : get M m k ≡ no 1

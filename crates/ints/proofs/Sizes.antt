@@ -12,10 +12,11 @@ use Rattle.model.proofs.Cases.{both}
 use Rattle.digest.specs.Home.{homeOfWord, slotsFit}
 use Rattle.digest.proofs.Bounds.{home-word-below}
 use Rattle.answers.specs.declared.Refusal.the-variants.{Sizes}
-use Rattle.ints.specs.declared.Probed.{Probed}
-use Rattle.ints.specs.declared.Probed.the-variants.{Refused}
+use Rattle.kinds.specs.declared.Probed.{Probed}
+use Rattle.kinds.specs.declared.Probed.the-variants.{Refused}
+use Rattle.kinds.specs.Probing.{along}
 use Rattle.ints.specs.Memory.{integers, fitting}
-use Rattle.ints.specs.Probing.{keysOnly, along, probing}
+use Rattle.ints.specs.Probing.{slotsIn, probing}
 
 module _ (marks keys : List ℕ) where
   -- marks and keys that fit are of one length, and there are some
@@ -32,7 +33,7 @@ module _ (marks keys : List ℕ) where
     home-fits q e = let (a, c) = fitting-says (sym p ∙ q) in (rw e (home-word-below 0 (length marks) k a), c)
 
     -- and the probing is the path's answer
-    pub probing-fit : {h : ℕ} {r : Probed} → b ≡ true → h ≡ homeOfWord 0 (length marks) k → r ≡ along (length marks) h (find integers (length marks) h (keysOnly marks keys) k) → r ≡ probing marks keys k
+    pub probing-fit : {h : ℕ} {r : Probed} → b ≡ true → h ≡ homeOfWord 0 (length marks) k → r ≡ along (length marks) h (find integers (length marks) h (slotsIn marks keys) k) → r ≡ probing marks keys k
     unfolding probing
     probing-fit q e w = rw (sym p ∙ q, ← e) w
 

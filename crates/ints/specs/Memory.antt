@@ -1,28 +1,22 @@
 -- The lent lists of an integer table as one record, what its slots hold, and the store that they are.
-use Prim.Native.Nat.{ℕ, zero, suc}
+use Prim.Native.Nat.{ℕ}
 use mathlib.Core.Bool.{Bool, false, _&&_}
 use mathlib.Core.List.{List}
 use borrow.Author.Tests.{eqb-true, eq-eqb}
 use mathlib.Core.Path.{refl, sym}
 use lib.Dec.{eqb}
-use lib.ListN.{length, getD, set, replicate}
-use Rattle.model.specs.Slots.{Slot, never, freed, bad, live, Keys}
+use lib.ListN.{length, set, replicate}
+use Rattle.model.specs.Slots.{Keys}
 use Rattle.model.specs.Store.{Store}
 use Rattle.digest.specs.Home.{homeOfWord, slotsFit}
 use Rattle.kinds.specs.Columns.{Column, values}
+use Rattle.kinds.specs.Marks.{cellsOf, wordsOf}
 
 -- Marks, keys, and what stands beside the keys.
 pub record Cells {W : Type 0} (C : Column W) : Type 0 where
   pub marks : List ℕ
   pub keys : List ℕ
   pub words : C .Words
-
--- What a slot with this mark, key and value holds: mark 0 never used, 1 live, 2 freed, any other damaged.
-unfoldable pub cell : {W : Type 0} → ℕ → ℕ → W → Slot ℕ W
-cell zero k v = never
-cell (suc zero) k v = live k v
-cell (suc (suc zero)) k v = freed
-cell (suc (suc (suc m))) k v = bad
 
 -- Integer keys are equal as numbers.
 abbrev pub integers : Keys ℕ
@@ -35,7 +29,7 @@ cells C = record {
   keys = integers;
   weight = λ k. 0;
   size = λ m. length (m .marks);
-  slots = λ m i. cell (getD (m .marks) i 0) (getD (m .keys) i 0) (C .read (m .words) i);
+  slots = λ m. cellsOf (wordsOf (m .marks)) (wordsOf (m .keys)) (C .read (m .words));
   home = λ m k. homeOfWord 0 (length (m .marks)) k;
   bytes = λ m. 0;
   sized = λ m. slotsFit (length (m .marks)) && (eqb (length (m .marks)) (length (m .keys)) && C .long (m .words) (length (m .marks)));

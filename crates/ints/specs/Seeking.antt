@@ -4,8 +4,8 @@ use mathlib.Core.Bool.{Bool, cond}
 use mathlib.Core.List.{List}
 use lib.ListN.{length}
 use Rattle.answers.specs.declared.Refusal.the-variants.{Sizes}
-use Rattle.ints.specs.declared.Probed.{Probed}
-use Rattle.ints.specs.declared.Probed.the-variants.{Refused}
+use Rattle.kinds.specs.declared.Probed.{Probed}
+use Rattle.kinds.specs.declared.Probed.the-variants.{Refused}
 use Rattle.kinds.specs.Columns.{Column, values}
 use Rattle.ints.specs.Memory.{Cells, cells, memory}
 use Rattle.ints.specs.Probing.{probing}

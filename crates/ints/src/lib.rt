@@ -3,42 +3,23 @@ ghost use mathlib.Core.Path.{_≡_};
 ghost use Prim.Native.Nat.{_<_};
 ghost use lib.ListN.{length};
 ghost use Rattle.model.specs.Path.{find};
-ghost use Rattle.ints.specs.Probing.{keysOnly, lookOf, firstFree, passedFree, nextSlot, ended, along, probing};
-ghost use Rattle.ints.specs.Scanning.{counted, scanning, nexting};
+ghost use Rattle.kinds.specs.Probing.{lookOf, along};
+ghost use Rattle.ints.specs.Probing.{slotsIn, probing};
+ghost use Rattle.ints.specs.Scanning.{scanning, nexting};
 ghost use Rattle.ints.specs.Memory.{integers, fitting};
 ghost use Rattle.ints.specs.Seeking.{fittingMap, seekingMap};
 use answers::Refusal;
 use digest::slot_of_word;
 use digest::slots_fit;
-
-// What the look at a slot of a path says: never used, damaged, live with the key, or go on.
-pub enum Sight {
-    Never,
-    Bad,
-    Same,
-    On,
-}
-
-// What a path found: the key's slot, the first free slot, or neither, each with the examined number; or a refusal.
-pub enum Probed {
-    Hit(usize, usize),
-    Free(usize, usize),
-    Full(usize),
-    Refused(Refusal),
-}
-
-// What a scan of all marks found: the number of live slots, or damage.
-pub enum Scanned {
-    Live(usize),
-    Bad,
-}
-
-// What stands first in a stretch of slots: a live slot, damage, or neither.
-pub enum Next {
-    Live(usize),
-    Bad,
-    Nothing,
-}
+use kinds::Next;
+use kinds::Probed;
+use kinds::Scanned;
+use kinds::Sight;
+use kinds::count_mark;
+use kinds::ended_at;
+use kinds::first_free;
+use kinds::next_slot;
+use kinds::passed_free;
 
 // Whether marks and keys are of one length that a table may have.
 pub fn fits(marks: &[u8], keys: &[u64]) -> bool
@@ -52,7 +33,7 @@ pub fn fits(marks: &[u8], keys: &[u64]) -> bool
 
 // The look at a slot with this mark and key, for a key.
 fn look(mark: u8, held: u64, key: u64) -> Sight
-    ensures { λ r. ⌜ r ≡ lookOf key mark held ⌝ }
+    ensures { λ r. ⌜ r ≡ lookOf integers key mark held ⌝ }
 {
     if mark == 0 {
         return Sight::Never;
@@ -69,51 +50,10 @@ fn look(mark: u8, held: u64, key: u64) -> Sight
     Sight::On
 }
 
-// The first free slot of a path so far: the one known, else this one.
-fn first_free(free: usize, slot: usize, size: usize) -> usize
-    ensures { λ r. ⌜ r ≡ firstFree size free slot ⌝ }
-{
-    if free < size {
-        return free;
-    }
-    slot
-}
-
-// The first free slot after a slot with this mark, which is not 0.
-fn passed_free(mark: u8, free: usize, slot: usize, size: usize) -> usize
-    ensures { λ r. ⌜ r ≡ passedFree size free slot mark ⌝ }
-{
-    if mark == 2 {
-        return first_free(free, slot, size);
-    }
-    free
-}
-
-// The slot after this one, wrapping.
-fn next_slot(slot: usize, size: usize) -> usize
-    requires { ⌜ slot < size ⌝ }
-    ensures { λ r. ⌜ r ≡ nextSlot size slot ⌝ }
-{
-    if slot + 1 < size {
-        return slot + 1;
-    }
-    0
-}
-
-// The answer of a path that ended without the key.
-fn ended_at(free: usize, size: usize, examined: usize) -> Probed
-    ensures { λ r. ⌜ r ≡ ended size free examined ⌝ }
-{
-    if free < size {
-        return Probed::Free(free, examined);
-    }
-    Probed::Full(examined)
-}
-
 // The path of a key from its home slot, slot by slot: each break is an answer.
 fn walk_path(marks: &[u8], keys: &[u64], key: u64, home: usize) -> Probed
     requires { ⌜ (home < length (now marks)) × (length (now keys) ≡ length (now marks)) ⌝ }
-    ensures { λ r. ⌜ r ≡ along (length (now (marks .entry))) home (find integers (length (now (marks .entry))) home (keysOnly (now (marks .entry)) (now (keys .entry))) key) ⌝ }
+    ensures { λ r. ⌜ r ≡ along (length (now (marks .entry))) home (find integers (length (now (marks .entry))) home (slotsIn (now (marks .entry)) (now (keys .entry))) key) ⌝ }
 {
     let size = marks.len();
     let mut slot = home;
@@ -148,17 +88,6 @@ pub fn probe(marks: &[u8], keys: &[u64], key: u64) -> Probed
     Probed::Refused(Refusal::Sizes)
 }
 
-// The live slots so far, after a slot with this mark.
-fn count_mark(sum: usize, mark: u8) -> usize
-    requires { ⌜ sum < 18446744073709551615 ⌝ }
-    ensures { λ r. ⌜ r ≡ counted sum mark ⌝ }
-{
-    if mark == 1 {
-        return sum + 1;
-    }
-    sum
-}
-
 // The scan of all marks: damage, else the number of live slots.
 pub fn scan(marks: &[u8]) -> Scanned
     ensures { λ r. ⌜ r ≡ scanning (now (marks .entry)) ⌝ }
@@ -170,7 +99,7 @@ pub fn scan(marks: &[u8]) -> Scanned
         if 2 < mark {
             return Scanned::Bad;
         }
-        live = count_mark(live, mark);
+        live += count_mark(mark);
         i += 1;
     }
     Scanned::Live(live)

@@ -1,4 +1,7 @@
 -- The laws that all kinds of tables share.
+pub mod Bridge
 pub mod Columns
+pub mod Scanning
 pub mod Settled
 pub mod Published
+pub mod Trail

@@ -1,4 +1,7 @@
 -- The definitions that all kinds of tables share.
 pub mod Columns
+pub mod Marks
+pub mod Probing
+pub mod Scanning
 pub mod Told
 pub mod Published

@@ -1,1 +1,86 @@
-// What all kinds of tables share: the column beside the keys, and what a call tells and leaves. Definitions and laws, no code.
+// What all kinds of tables share: the answers of probing, scan and look ahead, and the small steps of their loops.
+ghost use mathlib.Core.Path.{_≡_};
+ghost use Rattle.kinds.specs.Marks.{counted};
+ghost use Rattle.kinds.specs.Probing.{firstFree, passedFree, nextSlot, ended};
+use answers::Refusal;
+
+// What the look at a slot of a path says: never used, damaged, live with the key, or go on.
+pub enum Sight {
+    Never,
+    Bad,
+    Same,
+    On,
+}
+
+// What a path found: the key's slot, the first free slot, or neither, each with the examined number; or a refusal.
+pub enum Probed {
+    Hit(usize, usize),
+    Free(usize, usize),
+    Full(usize),
+    Refused(Refusal),
+}
+
+// What a scan of all slots found: the number of live slots, or damage.
+pub enum Scanned {
+    Live(usize),
+    Bad,
+}
+
+// What stands first in a stretch of slots: a live slot, damage, or neither.
+pub enum Next {
+    Live(usize),
+    Bad,
+    Nothing,
+}
+
+// The first free slot of a path so far: the one known, else this one.
+pub fn first_free(free: usize, slot: usize, size: usize) -> usize
+    ensures { λ r. ⌜ r ≡ firstFree size free slot ⌝ }
+{
+    if free < size {
+        return free;
+    }
+    slot
+}
+
+// The first free slot after a slot with this mark, which is not 0.
+pub fn passed_free(mark: u8, free: usize, slot: usize, size: usize) -> usize
+    ensures { λ r. ⌜ r ≡ passedFree size free slot mark ⌝ }
+{
+    if mark == 2 {
+        return first_free(free, slot, size);
+    }
+    free
+}
+
+// The slot after this one, wrapping.
+pub fn next_slot(slot: usize, size: usize) -> usize
+    ensures { λ r. ⌜ r ≡ nextSlot size slot ⌝ }
+{
+    if slot < size {
+        if slot + 1 < size {
+            return slot + 1;
+        }
+    }
+    0
+}
+
+// The answer of a path that ended without the key.
+pub fn ended_at(free: usize, size: usize, examined: usize) -> Probed
+    ensures { λ r. ⌜ r ≡ ended size free examined ⌝ }
+{
+    if free < size {
+        return Probed::Free(free, examined);
+    }
+    Probed::Full(examined)
+}
+
+// What a slot with this mark adds to the number of live slots.
+pub fn count_mark(mark: u8) -> usize
+    ensures { λ r. ⌜ r ≡ counted mark ⌝ }
+{
+    if mark == 1 {
+        return 1;
+    }
+    0
+}

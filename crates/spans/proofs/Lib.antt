@@ -5,3 +5,6 @@ pub mod Lawful
 pub mod Paper
 pub mod Tiled
 pub mod Writes
+pub mod Equal
+pub mod Marks
+pub mod Sizes

@@ -1,4 +1,5 @@
 -- The definitions of byte tables.
 pub mod Keys
+pub mod Marks
 pub mod Memory
 pub mod Sound

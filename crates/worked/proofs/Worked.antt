@@ -9,7 +9,7 @@ use Rattle.model.specs.Walk.{halts, halted, reachOf, paceTo, pace, step}
 use Rattle.model.specs.Machine.{stepping}
 use Rattle.answers.specs.Said.{roomSaid, gotSaid, insertedSaid, removedSaid, stepSaid}
 use Rattle.digest.specs.Digest.{mixOf, moreOf}
-use Rattle.ints.specs.Memory.{cell}
+use Rattle.kinds.specs.Marks.{cell}
 use Rattle.int_map.specs.Calls.{getOf, reserveOf, insertOf, removeOf}
 use Rattle.int_walk.specs.Calls.{stepOf}
 use Rattle.worked.specs.Rows.{done, trace, orders, answers, made, rows}

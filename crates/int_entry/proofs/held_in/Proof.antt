@@ -1,8 +1,8 @@
 -- `int_entry::held_in` meets its contract: damage, the live slot with the key, or no good handle.
 use borrow.Author.Tests.{eq-eqb, ne-eqb}
 use Rattle.model.specs.Calls.{need, gripOn}
-use Rattle.ints.specs.Memory.{cell}
-use Rattle.ints.proofs.Marks.{cell-bad}
+use Rattle.kinds.specs.Marks.{cell}
+use Rattle.kinds.proofs.Scanning.{cell-bad}
 use Rattle.answers.specs.Said.{heldSaid}
 use Rattle.int_entry.specs.Numbers.{heldNumbers}
 use Rattle.int_entry.proofs.Grips.{idle}

@@ -2,9 +2,9 @@
 use mathlib.Core.Path.{_≡_}
 use native.Mathlib.Omega.{arith}
 use borrow.Author.Tests.{eq-eqb, ne-eqb}
-use Rattle.ints.specs.Probing.{lookAt, lookOf}
-use Rattle.ints.specs.Memory.{cell}
-use Rattle.ints.proofs.Marks.{cell-bad}
+use Rattle.kinds.specs.Marks.{cell}
+use Rattle.kinds.specs.Probing.{lookAt, lookOf}
+use Rattle.kinds.proofs.Scanning.{cell-bad}
 use Rattle.ints.proofs.look.Statement.{statement}
 use Rattle.ints.proofs.look.Tie as tie
 

@@ -2,27 +2,33 @@
 use Prim.Native.Nat.{_-_}
 use lib.ListN.{length}
 use borrow.Author.Needs.{needs}
-use Rattle.ints.proofs.Marks.{Scanning, scan-start, scan-bad, scan-on, scan-end}
+use Rattle.kinds.specs.Marks.{wordsOf}
+use Rattle.kinds.proofs.Scanning.{counted-low, Scanning, scan-start, scan-bad, scan-on, scan-end}
+use Rattle.ints.specs.Scanning.{scanning}
 use Rattle.ints.proofs.scan.Statement.{statement}
 use Rattle.ints.proofs.scan.Tie as tie
 
 abbrev Inv-loop : tie.InvT-loop
-Inv-loop marks live₀ i₀ live i = Scanning marks live i
+Inv-loop marks live₀ i₀ live i = Scanning (wordsOf marks) (length marks) live i
 
 abbrev μ-loop : tie.MeasureT-loop
 μ-loop marks live₀ i₀ live i = length marks - i
 
 loop-holds : tie.Need-loop-holds Inv-loop μ-loop
-loop-holds c = scan-start _
+loop-holds c = scan-start _ _
 
 shared-slice-read-mark : tie.Need-shared-slice-read-mark Inv-loop μ-loop
 shared-slice-read-mark c = search needs
 
 returns : tie.Need-returns Inv-loop μ-loop
-returns c = scan-bad _ _ (c .before .before .loop-test .taken) (c .if1 .taken)
+unfolding scanning
+returns c = scan-bad (c .before .before .before .loop .inv) (c .before .before .loop-test .taken) (c .if1 .taken)
 
 count-mark-requires : tie.Need-count-mark-requires Inv-loop μ-loop
 count-mark-requires c κs = search needs
+
+add-live : tie.Need-add-live Inv-loop μ-loop
+add-live c = let one = counted-low _ (c .count-mark .ensures) in search needs
 
 add-i : tie.Need-add-i Inv-loop μ-loop
 add-i c = search needs
@@ -34,6 +40,7 @@ loop-again : tie.Need-loop-again Inv-loop μ-loop
 loop-again c = scan-on (c .before .before .before .before .loop .inv) (c .before .before .before .loop-test .taken) (c .before .if1 .left) (c .count-mark .ensures)
 
 returns-2 : tie.Need-returns-2 Inv-loop μ-loop
+unfolding scanning
 returns-2 c = scan-end (c .before .loop .inv) (c .loop-test .left)
 
 pub scan-spec : {M : Type 1} → statement M
@@ -46,6 +53,7 @@ scan-spec =
     shared-slice-read-mark
     returns
     count-mark-requires
+    add-live
     add-i
     loop-less
     loop-again

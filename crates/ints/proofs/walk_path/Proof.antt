@@ -3,20 +3,22 @@ use Prim.Native.Nat.{_-_}
 use lib.ListN.{length}
 use borrow.Author.Needs.{needs}
 use Rattle.model.specs.Path.{find}
-use Rattle.ints.specs.Probing.{keysOnly, along}
+use Rattle.kinds.specs.Marks.{wordsOf}
+use Rattle.kinds.specs.Probing.{along}
+use Rattle.kinds.proofs.Trail.{OnTrail, at-home, round, on-never, on-bad, on-same, on-on}
+use Rattle.ints.specs.Probing.{slotsIn}
 use Rattle.ints.specs.Memory.{integers}
-use Rattle.ints.proofs.Trail.{OnTrail, at-home, round, on-never, on-bad, on-same, on-on}
 use Rattle.ints.proofs.walk_path.Statement.{statement}
 use Rattle.ints.proofs.walk_path.Tie as tie
 
 abbrev Inv-loop : tie.InvT-loop
-Inv-loop marks keys key home size slot₀ n₀ free₀ slot n free = OnTrail marks keys (length marks) key slot n free (along (length marks) home (find integers (length marks) home (keysOnly marks keys) key))
+Inv-loop marks keys key home size slot₀ n₀ free₀ slot n free = OnTrail integers (wordsOf marks) (wordsOf keys) (length marks) key slot n free (along (length marks) home (find integers (length marks) home (slotsIn marks keys) key))
 
 abbrev μ-loop : tie.MeasureT-loop
 μ-loop marks keys key home size slot₀ n₀ free₀ slot n free = length marks - n
 
 loop-holds : tie.Need-loop-holds Inv-loop μ-loop
-loop-holds c = at-home _ _ _ _ _ (c .before .before .pre .0)
+loop-holds c = at-home integers _ _ _ _ _ (c .before .before .pre .0)
 
 ended-at-requires : tie.Need-ended-at-requires Inv-loop μ-loop
 ended-at-requires c κs = search needs

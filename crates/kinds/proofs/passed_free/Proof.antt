@@ -1,9 +1,9 @@
--- `ints::passed_free` meets its contract: only mark 2 may give a free slot.
+-- `kinds::passed_free` meets its contract: only mark 2 may give a free slot.
 use borrow.Author.Tests.{eq-eqb, ne-eqb}
 use borrow.Author.Needs.{needs}
-use Rattle.ints.specs.Probing.{passedFree}
-use Rattle.ints.proofs.passed_free.Statement.{statement}
-use Rattle.ints.proofs.passed_free.Tie as tie
+use Rattle.kinds.specs.Probing.{passedFree}
+use Rattle.kinds.proofs.passed_free.Statement.{statement}
+use Rattle.kinds.proofs.passed_free.Tie as tie
 
 first-free-requires : tie.Need-first-free-requires
 first-free-requires c κs = search needs

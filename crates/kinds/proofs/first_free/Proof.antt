@@ -1,8 +1,8 @@
--- `ints::first_free` meets its contract: the slot known, else this one.
+-- `kinds::first_free` meets its contract: the slot known, else this one.
 use borrow.Author.Tests.{lt-ltb, le-ltb}
-use Rattle.ints.specs.Probing.{firstFree}
-use Rattle.ints.proofs.first_free.Statement.{statement}
-use Rattle.ints.proofs.first_free.Tie as tie
+use Rattle.kinds.specs.Probing.{firstFree}
+use Rattle.kinds.proofs.first_free.Statement.{statement}
+use Rattle.kinds.proofs.first_free.Tie as tie
 
 returns : tie.Need-returns
 unfolding firstFree

@@ -1,8 +1,8 @@
--- `ints::ended_at` meets its contract: the first free slot where there is one.
+-- `kinds::ended_at` meets its contract: the first free slot where there is one.
 use borrow.Author.Tests.{lt-ltb, le-ltb}
-use Rattle.ints.specs.Probing.{ended}
-use Rattle.ints.proofs.ended_at.Statement.{statement}
-use Rattle.ints.proofs.ended_at.Tie as tie
+use Rattle.kinds.specs.Probing.{ended}
+use Rattle.kinds.proofs.ended_at.Statement.{statement}
+use Rattle.kinds.proofs.ended_at.Tie as tie
 
 returns : tie.Need-returns
 unfolding ended

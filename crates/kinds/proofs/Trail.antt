@@ -1,23 +1,22 @@
 -- The probing loop, slot by slot, is the path; and what each look at a slot says of the rest.
 use Prim.Native.Nat.{ℕ, zero, suc, _+_, _-_, _≤_, _<_}
 use mathlib.Core.Bool.{cond}
-use mathlib.Core.List.{List}
 use mathlib.Core.Path.{_≡_, refl, _∙_}
 use native.Mathlib.Numerals.{add-one}
 use native.Mathlib.Omega.{arith}
 use borrow.Author.Tests.{lt-ltb, le-ltb}
-use lib.Dec.{ltb, eqb}
-use lib.ListN.{getD}
+use lib.Dec.{ltb}
+use Rattle.model.specs.Slots.{Keys}
 use Rattle.model.specs.Path as path
 use Rattle.model.proofs.Cases.{by-bool, by-lt}
 use Rattle.model.proofs.Path.{at-below, probe-find}
 use Rattle.answers.specs.declared.Refusal.the-variants.{Damaged}
-use Rattle.ints.specs.declared.Sight.the-variants.{Never, Bad, Same, On}
-use Rattle.ints.specs.declared.Sight.{Sight}
-use Rattle.ints.specs.declared.Probed.{Probed}
-use Rattle.ints.specs.declared.Probed.the-variants.{Hit, Refused}
-use Rattle.ints.specs.Memory.{cell, integers}
-use Rattle.ints.specs.Probing.{keysOnly, lookAt, lookOf, firstFree, passedFree, nextSlot, ended, along, onSight, trail}
+use Rattle.kinds.specs.declared.Sight.the-variants.{Never, Bad, Same, On}
+use Rattle.kinds.specs.declared.Sight.{Sight}
+use Rattle.kinds.specs.declared.Probed.{Probed}
+use Rattle.kinds.specs.declared.Probed.the-variants.{Hit, Refused}
+use Rattle.kinds.specs.Marks.{cell, keysOnly}
+use Rattle.kinds.specs.Probing.{lookAt, lookOf, firstFree, passedFree, nextSlot, ended, along, onSight, trail}
 
 -- the slot of the first free place, S where there is none
 unfoldable freeSlot : ℕ → ℕ → ℕ → ℕ
@@ -48,78 +47,79 @@ module _ (S h : ℕ) (inside : h < S) where
       (λ a q. rw (q, q, lt-ltb (path.at S h f) S (at-below S h f inside a)))
       (λ a q. rw (q, le-ltb S S (omega arith), lt-ltb n S l))
 
-  module _ (k : ℕ) where
-    one-slot : (n f : ℕ) → n < S → (mark held : ℕ) (r : ℕ → Probed) (q : ℕ → path.Find (Unit {0}))
+  module _ {K : Type 0} (E : Keys K) (k : K) where
+    one-slot : (n f : ℕ) → n < S → (mark : ℕ) (held : K) (r : ℕ → Probed) (q : ℕ → path.Find (Unit {0}))
         → ((x : ℕ) → r (freeSlot S h x) ≡ along S h (q x))
-        → onSight S (path.at S h n) n (freeSlot S h f) mark (lookOf k mark held) r ≡ along S h (path.onSlot integers S k n f (cell mark held tt) q)
+        → onSight S (path.at S h n) n (freeSlot S h f) mark (lookOf E k mark held) r ≡ along S h (path.onSlot E S k n f (cell mark held tt) q)
     unfolding lookOf lookAt cell onSight passedFree path.onSlot along
     one-slot n f l zero held r q e = rw (free-first f n l) (free-end (path.firstFree S f n) (suc n))
-    one-slot n f l (suc zero) held r q e = by-bool (eqb held k) (λ p. rw p) (λ p. rw p (e f))
+    one-slot n f l (suc zero) held r q e = by-bool (E .same k held) (λ p. rw p) (λ p. rw p (e f))
     one-slot n f l (suc (suc zero)) held r q e = rw (free-first f n l) (e (path.firstFree S f n))
     one-slot n f l (suc (suc (suc m))) held r q e = refl
 
-    module _ (marks keys : List ℕ) where
-      rest : (g n f : ℕ) → n + g ≡ S → trail marks keys S k g (path.at S h n) n (freeSlot S h f) ≡ along S h (path.probe integers S h (keysOnly marks keys) k g n f)
+    module _ (mark : ℕ → ℕ) (key : ℕ → K) where
+      rest : (g n f : ℕ) → n + g ≡ S → trail E mark key S k g (path.at S h n) n (freeSlot S h f) ≡ along S h (path.probe E S h (keysOnly mark key) k g n f)
       unfolding trail path.probe
       rest zero n f e = free-end f n
-      rest (suc g) n f e = one-slot n f (omega arith) (getD marks (path.at S h n) 0) (getD keys (path.at S h n) 0) _ _
+      rest (suc g) n f e = one-slot n f (omega arith) (mark (path.at S h n)) (key (path.at S h n)) _ _
           (λ x. rw (at-next n (omega arith)) (rest g (suc n) x (omega arith)))
 
       -- the loop from the home slot is the path
-      trail-find : trail marks keys S k S h 0 S ≡ along S h (path.find integers S h (keysOnly marks keys) k)
+      trail-find : trail E mark key S k S h 0 S ≡ along S h (path.find E S h (keysOnly mark key) k)
       unfolding freeSlot
       trail-find =
-          let e : trail marks keys S k S (path.at S h 0) 0 (freeSlot S h S) ≡ along S h (path.probe integers S h (keysOnly marks keys) k S 0 S) = rest S 0 S (omega arith) in
-          rw (at-start, le-ltb S S (omega arith), probe-find integers S h (keysOnly marks keys) k) at e
+          let e : trail E mark key S k S (path.at S h 0) 0 (freeSlot S h S) ≡ along S h (path.probe E S h (keysOnly mark key) k S 0 S) = rest S 0 S (omega arith) in
+          rw (at-start, le-ltb S S (omega arith), probe-find E S h (keysOnly mark key) k) at e
 
 next-below : (S slot : ℕ) → slot < S → nextSlot S slot < S
 unfolding nextSlot
 next-below S slot l = by-lt (slot + 1) S (λ a e. rw e a) (λ a e. rw e (omega arith))
 
--- after one slot more
-turn : (marks keys : List ℕ) (S k slot n free : ℕ) → n < S
-    → trail marks keys S k (S - n) slot n free
-    ≡ onSight S slot n free (getD marks slot 0) (lookOf k (getD marks slot 0) (getD keys slot 0)) (λ f. trail marks keys S k (S - (n + 1)) (nextSlot S slot) (n + 1) f)
-unfolding trail
-turn marks keys S k slot n free l = let e : S - n ≡ suc (S - (n + 1)) = omega arith in rw (e, add-one)
+module _ {K : Type 0} (E : Keys K) (mark : ℕ → ℕ) (key : ℕ → K) where
+  -- after one slot more
+  turn : (S : ℕ) (k : K) (slot n free : ℕ) → n < S
+      → trail E mark key S k (S - n) slot n free
+      ≡ onSight S slot n free (mark slot) (lookOf E k (mark slot) (key slot)) (λ f. trail E mark key S k (S - (n + 1)) (nextSlot S slot) (n + 1) f)
+  unfolding trail
+  turn S k slot n free l = let e : S - n ≡ suc (S - (n + 1)) = omega arith in rw (e, add-one)
 
--- the loop's state: the rest of the trail gives the whole answer
-pub record OnTrail (marks keys : List ℕ) (S k slot n free : ℕ) (a : Probed) : Type 0 where
-  pub inside : slot < S
-  pub within : n ≤ S
-  pub gives : trail marks keys S k (S - n) slot n free ≡ a
+  -- the loop's state: the rest of the trail gives the whole answer
+  pub record OnTrail (S : ℕ) (k : K) (slot n free : ℕ) (a : Probed) : Type 0 where
+    pub inside : slot < S
+    pub within : n ≤ S
+    pub gives : trail E mark key S k (S - n) slot n free ≡ a
 
--- the loop begins at the home slot
-pub at-home : (marks keys : List ℕ) (S k h : ℕ) → h < S → OnTrail marks keys S k h 0 S (along S h (path.find integers S h (keysOnly marks keys) k))
-at-home marks keys S k h l = record { inside = l; within = omega arith; gives = let e : S - 0 ≡ S = omega arith in rw e (trail-find S h l k marks keys) }
+  -- the loop begins at the home slot
+  pub at-home : (S : ℕ) (k : K) (h : ℕ) → h < S → OnTrail S k h 0 S (along S h (path.find E S h (keysOnly mark key) k))
+  at-home S k h l = record { inside = l; within = omega arith; gives = let e : S - 0 ≡ S = omega arith in rw e (trail-find S h l E k mark key) }
 
-module _ {marks keys : List ℕ} {S k slot n free : ℕ} {a : Probed} (w : OnTrail marks keys S k slot n free a) where
+module _ {K : Type 0} {E : Keys K} {mark : ℕ → ℕ} {key : ℕ → K} {S : ℕ} {k : K} {slot n free : ℕ} {a : Probed} (w : OnTrail E mark key S k slot n free a) where
   -- every slot was examined
   pub round : {r : Probed} → n ≡ S → r ≡ ended S free n → r ≡ a
   unfolding trail
   round e q = let z : S - n ≡ 0 = omega arith in q ∙ (rw z at (w .gives))
 
-  module _ {x : Sight} (l : n < S) (look : x ≡ lookOf k (getD marks slot 0) (getD keys slot 0)) where
+  module _ {x : Sight} (l : n < S) (look : x ≡ lookOf E k (mark slot) (key slot)) where
     -- a slot that was never used
     pub on-never : {f : ℕ} {r : Probed} → x ≡ Never → f ≡ firstFree S free slot → r ≡ ended S f (n + 1) → r ≡ a
     unfolding onSight
-    on-never e p q = rw (q, p, add-one, ← w .gives, turn marks keys S k slot n free l, ← look, e)
+    on-never e p q = rw (q, p, add-one, ← w .gives, turn E mark key S k slot n free l, ← look, e)
 
     -- a damaged slot
     pub on-bad : x ≡ Bad → Refused Damaged ≡ a
     unfolding onSight
-    on-bad e = rw (← w .gives, turn marks keys S k slot n free l, ← look, e)
+    on-bad e = rw (← w .gives, turn E mark key S k slot n free l, ← look, e)
 
     -- the key's slot
     pub on-same : x ≡ Same → Hit slot (n + 1) ≡ a
     unfolding onSight
-    on-same e = rw (← w .gives, turn marks keys S k slot n free l, ← look, e, add-one)
+    on-same e = rw (← w .gives, turn E mark key S k slot n free l, ← look, e, add-one)
 
     -- any other slot: the rest of the path
-    pub on-on : {f s : ℕ} → x ≡ On → f ≡ passedFree S free slot (getD marks slot 0) → s ≡ nextSlot S slot → OnTrail marks keys S k s (n + 1) f a
+    pub on-on : {f s : ℕ} → x ≡ On → f ≡ passedFree S free slot (mark slot) → s ≡ nextSlot S slot → OnTrail E mark key S k s (n + 1) f a
     unfolding onSight
     on-on {f} {s} e p q = record {
       inside = rw q (next-below S slot (w .inside));
       within = omega arith;
-      gives = rw (← w .gives, turn marks keys S k slot n free l, ← look, e, p, q);
+      gives = rw (← w .gives, turn E mark key S k slot n free l, ← look, e, p, q);
     }

@@ -1,0 +1,116 @@
+-- What a mark says of its slot, the scan of all slots, and the first live slot of a stretch, one mark at a time.
+use Prim.Native.Nat.{ℕ, zero, suc, _+_, _-_, _≤_, _<_}
+use mathlib.Core.Bool.{false}
+use mathlib.Core.Path.{_≡_, refl}
+use native.Mathlib.Numerals.{add-one}
+use native.Mathlib.Omega.{arith}
+use borrow.Author.Tests.{lt-ltb, le-ltb, ne-eqb}
+use lib.Dec.{eqb}
+use Rattle.model.specs.Slots.{bad, hurts, weigh, total, count, damaged}
+use Rattle.model.specs.Path.{from}
+use Rattle.model.specs.Walk.{halts}
+use Rattle.model.proofs.Cases.{by-bool, by-lt}
+use Rattle.model.proofs.Path.{from-low}
+use Rattle.model.proofs.Slots.{damaged-bad, count-high}
+use Rattle.kinds.specs.declared.Scanned.the-variants as scanned
+use Rattle.kinds.specs.declared.Next.{Next}
+use Rattle.kinds.specs.declared.Next.the-variants as next
+use Rattle.kinds.specs.Marks.{cell, marksOnly, counted}
+use Rattle.kinds.specs.Scanning.{scanningOf, nextAt, nextingOf}
+
+module _ {K W : Type 0} where
+  -- a mark above 2 is damage
+  pub cell-bad : (m : ℕ) (k : K) (v : W) → 2 < m → cell m k v ≡ bad
+  unfolding cell
+  cell-bad zero k v l = let z : ⊥ = omega arith in absurd z
+  cell-bad (suc zero) k v l = let z : ⊥ = omega arith in absurd z
+  cell-bad (suc (suc zero)) k v l = let z : ⊥ = omega arith in absurd z
+  cell-bad (suc (suc (suc m))) k v l = refl
+
+  -- others are none
+  cell-sound : (m : ℕ) (k : K) (v : W) → m ≤ 2 → hurts (cell m k v) ≡ false
+  unfolding cell hurts
+  cell-sound zero k v l = refl
+  cell-sound (suc zero) k v l = refl
+  cell-sound (suc (suc zero)) k v l = refl
+  cell-sound (suc (suc (suc m))) k v l = let z : ⊥ = omega arith in absurd z
+
+  -- a mark that is 0 or 2 halts no step
+  cell-passed : (m : ℕ) (k : K) (v : W) → m ≤ 2 → (m ≡ 1 → ⊥) → halts (cell m k v) ≡ false
+  unfolding cell halts
+  cell-passed zero k v l h = refl
+  cell-passed (suc zero) k v l h = absurd (h refl)
+  cell-passed (suc (suc zero)) k v l h = refl
+  cell-passed (suc (suc (suc m))) k v l h = let z : ⊥ = omega arith in absurd z
+
+  counted-weighs : (m : ℕ) (k : K) (v : W) → counted m ≡ weigh (λ x. 1) (cell m k v)
+  unfolding counted cell weigh
+  counted-weighs zero k v = refl
+  counted-weighs (suc zero) k v = refl
+  counted-weighs (suc (suc zero)) k v = refl
+  counted-weighs (suc (suc (suc m))) k v = rw (ne-eqb (suc (suc (suc m))) 1 (omega arith))
+
+-- a mark adds at most one
+pub counted-low : (m : ℕ) {r : ℕ} → r ≡ counted m → r ≤ 1
+unfolding counted
+counted-low m p = by-bool (eqb m 1) (λ e. omega (arith, rw e at p)) (λ e. omega (arith, rw e at p))
+
+-- the scan's state: no damage among the first i slots, and so many live
+pub record Scanning (mark : ℕ → ℕ) (S live i : ℕ) : Type 0 where
+  pub within : i ≤ S
+  pub low : live ≤ i
+  pub lives : live ≡ count (marksOnly mark) i
+  pub sound : damaged (marksOnly mark) i ≡ false
+
+pub scan-start : (mark : ℕ → ℕ) (S : ℕ) → Scanning mark S 0 0
+unfolding total damaged
+scan-start mark S = record { within = omega arith; low = omega arith; lives = refl; sound = refl }
+
+module _ {mark : ℕ → ℕ} {S live i : ℕ} (w : Scanning mark S live i) where
+  pub scan-bad : i < S → 2 < mark i → scanned.Bad ≡ scanningOf mark S
+  unfolding scanningOf
+  scan-bad l h = rw (damaged-bad (marksOnly mark) S i l (cell-bad (mark i) tt tt h))
+
+  pub scan-on : {r : ℕ} → i < S → mark i ≤ 2 → r ≡ counted (mark i) → Scanning mark S (live + r) (i + 1)
+  unfolding total damaged
+  scan-on {r} l h e = record {
+    within = omega arith;
+    low = omega (arith, counted-weighs (mark i) (tt {0}) (tt {0}), count-high (marksOnly mark) (suc i));
+    lives = rw (add-one, e, counted-weighs (mark i) (tt {0}) (tt {0}), w .lives);
+    sound = rw (add-one, cell-sound (mark i) (tt {0}) (tt {0}) h) (w .sound);
+  }
+
+  pub scan-end : S ≤ i → scanned.Live live ≡ scanningOf mark S
+  unfolding scanningOf
+  scan-end l = let e : S ≡ i = omega arith in rw (e, w .sound, w .lives)
+
+-- the look ahead's state: the rest of the stretch gives the whole answer, and beyond S there is nothing
+pub record Ahead (mark : ℕ → ℕ) (S e i : ℕ) (a : Next) : Type 0 where
+  pub beyond : (j : ℕ) → S ≤ j → mark j ≡ 0
+  pub gives : nextingOf mark i e ≡ a
+
+pub ahead-start : (mark : ℕ → ℕ) (S e i : ℕ) → ((j : ℕ) → S ≤ j → mark j ≡ 0) → Ahead mark S e i (nextingOf mark i e)
+ahead-start mark S e i h = record { beyond = h; gives = refl }
+
+module _ {mark : ℕ → ℕ} {S e i : ℕ} {a : Next} (w : Ahead mark S e i a) where
+  pub ahead-live : i < e → mark i ≡ 1 → next.Live i ≡ a
+  unfolding nextingOf from nextAt halts cell
+  ahead-live l h = let q : e - i ≡ suc (e - suc i) = omega arith in rw (← w .gives, q, h, lt-ltb i e l, h)
+
+  pub ahead-bad : i < e → 2 < mark i → next.Bad ≡ a
+  unfolding nextingOf from nextAt halts
+  ahead-bad l h = let q : e - i ≡ suc (e - suc i) = omega arith in rw (← w .gives, q, cell-bad (mark i) (tt {0}) (tt {0}) h, lt-ltb i e l, cell-bad (mark i) (tt {0}) (tt {0}) h)
+
+  pub ahead-on : i < e → mark i ≤ 2 → (mark i ≡ 1 → ⊥) → Ahead mark S e (i + 1) a
+  unfolding nextingOf from
+  ahead-on l h k = record { beyond = w .beyond; gives = let q : e - i ≡ suc (e - suc i) = omega arith in rw (← w .gives, q, cell-passed (mark i) (tt {0}) (tt {0}) h k, add-one) }
+
+  pub ahead-past : S ≤ i → next.Nothing ≡ a
+  unfolding nextingOf nextAt cell
+  ahead-past h = rw (← w .gives) (by-lt (from (λ j. halts (marksOnly mark j)) (e - i) i) e
+      (λ a q. rw (q, w .beyond (from (λ j. halts (marksOnly mark j)) (e - i) i) (omega (arith, from-low (λ j. halts (marksOnly mark j)) (e - i) i))))
+      (λ a q. rw q))
+
+  pub ahead-end : e ≤ i → next.Nothing ≡ a
+  unfolding nextingOf from
+  ahead-end l = let q : e - i ≡ 0 = omega arith in rw (← w .gives, q, le-ltb i e l)

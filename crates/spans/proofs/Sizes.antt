@@ -1,0 +1,60 @@
+-- What fitting sizes say, and the tests of sizes and of keys.
+use Prim.Native.Nat.{ℕ, _≤_, _<_}
+use mathlib.Core.Bool.{Bool, true, false, _&&_}
+use mathlib.Core.List.{List}
+use mathlib.Core.Path.{_≡_, refl, sym, _∙_}
+use native.Mathlib.Omega.{arith}
+use borrow.Author.Tests.{ltb-true, leb-true, eqb-true, eq-eqb, ne-eqb}
+use lib.Dec.{ltb, leb, eqb}
+use lib.ListN.{length}
+use Rattle.model.proofs.Cases.{both, by-bool}
+use Rattle.digest.specs.Home.{slotsFit, keyFits}
+use Rattle.spans.specs.Memory.{Spans, fitting, arenaLimit, askedOf, keptOf}
+
+-- Marks, offsets and lengths of one length that is not 0, and an arena within its limit.
+pub record Sized (s : Spans) : Type 0 where
+  pub some : 0 < length (s .marks)
+  pub offsets : length (s .offsets) ≡ length (s .marks)
+  pub lengths : length (s .lengths) ≡ length (s .marks)
+  pub arena : length (s .arena) ≤ 32768
+
+module _ (s : Spans) where
+  pub fitting-says : fitting s ≡ true → Sized s
+  unfolding fitting
+  fitting-says f =
+      let (a, b) = both (slotsFit (length (s .marks))) (eqb (length (s .marks)) (length (s .offsets)) && (eqb (length (s .marks)) (length (s .lengths)) && leb (length (s .arena)) arenaLimit)) f in
+      let (c, d) = both (eqb (length (s .marks)) (length (s .offsets))) (eqb (length (s .marks)) (length (s .lengths)) && leb (length (s .arena)) arenaLimit) b in
+      let (e, g) = both (eqb (length (s .marks)) (length (s .lengths))) (leb (length (s .arena)) arenaLimit) d in
+      let (h, k) = both (ltb 0 (length (s .marks))) (leb (length (s .marks)) 4096) a in
+      record {
+        some = ltb-true 0 (length (s .marks)) h;
+        offsets = sym (eqb-true (length (s .marks)) (length (s .offsets)) c);
+        lengths = sym (eqb-true (length (s .marks)) (length (s .lengths)) e);
+        arena = leb-true (length (s .arena)) arenaLimit g;
+      }
+
+  module _ {b : Bool} (p : b ≡ slotsFit (length (s .marks))) where
+    pub fits-not : b ≡ false → false ≡ fitting s
+    unfolding fitting
+    fits-not q = rw (← p, q)
+
+    pub fits-offsets : b ≡ true → (length (s .marks) ≡ length (s .offsets) → ⊥) → false ≡ fitting s
+    unfolding fitting
+    fits-offsets q h = rw (← p, q, ne-eqb (length (s .marks)) (length (s .offsets)) h)
+
+    pub fits-lengths : b ≡ true → length (s .marks) ≡ length (s .offsets) → (length (s .marks) ≡ length (s .lengths) → ⊥) → false ≡ fitting s
+    unfolding fitting
+    fits-lengths q e h = rw (← p, q, eq-eqb (length (s .marks)) (length (s .offsets)) e, ne-eqb (length (s .marks)) (length (s .lengths)) h)
+
+    pub fits-arena : b ≡ true → length (s .marks) ≡ length (s .offsets) → length (s .marks) ≡ length (s .lengths) → leb (length (s .arena)) 32768 ≡ fitting s
+    unfolding fitting
+    fits-arena q e h = rw (← p, q, eq-eqb (length (s .marks)) (length (s .offsets)) e, eq-eqb (length (s .marks)) (length (s .lengths)) h)
+
+-- the test of a key that is asked for, and of one that is to be stored
+pub asked-test : (k : List ℕ) → keyFits (length k) ≡ eqb (askedOf k) 0
+unfolding askedOf
+asked-test k = by-bool (keyFits (length k)) (λ e. rw e) (λ e. rw e)
+
+pub kept-test : (k : List ℕ) → keyFits (length k) ≡ eqb (keptOf k) 0
+unfolding keptOf
+kept-test k = asked-test k
