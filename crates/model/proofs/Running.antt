@@ -47,18 +47,34 @@ module _ {K W : Type 0} (E : Keys K) (S h : ℕ) (t : Table K W) where
         let j = place S h i in
         by-same E a k
         (λ e s. by-lt j n
-        (λ d x. (j, v, find-hit E S h (put t i (live k v)) a j v (place-below S h i inside below) (rw (new-place, e))
-        (λ m c. rw (kept-place a m (omega arith) (λ z. let y : ⊥ = omega arith in absurd y)) (hit-before a n w q m (omega arith)))))
+        (λ d x. (
+          j,
+          v,
+          find-hit E S h (put t i (live k v)) a j v (place-below S h i inside below) (rw (new-place, e))
+              (λ m c. rw (kept-place a m (omega arith) (λ z. let y : ⊥ = omega arith in absurd y)) (hit-before a n w q m (omega arith))),
+        ))
         (λ d x. by-eq n j
-        (λ c y. (n, v, find-hit E S h (put t i (live k v)) a n v l (rw (c, new-place, e))
-        (λ m c′. rw (kept-place a m (omega arith) (λ z. let y : ⊥ = omega arith in absurd y)) (hit-before a n w q m c′))))
-        (λ c y. (n, w, find-hit E S h (put t i (live k v)) a n w l (kept-place a n l c ∙ p)
-        (λ m c′. rw (kept-place a m (omega arith) (λ z. let y : ⊥ = omega arith in absurd y)) (hit-before a n w q m c′))))))
-        (λ s. (n, w, find-hit E S h (put t i (live k v)) a n w l
-        (kept-place a n l (λ z. let y : E .same a k ≡ true = rw (own a w ((ap t (sym (ap (λ x. at S h x) z ∙ at-place S h i inside below))) ∙ p)) (E .self k) in clash (cc)) ∙ p)
-        (λ m c. by-eq m j
-        (λ z y. rw (z, new-place) s)
-        (λ z y. rw (kept-place a m (omega arith) z) (hit-before a n w q m c)))))
+        (λ c y. (
+          n,
+          v,
+          find-hit E S h (put t i (live k v)) a n v l (rw (c, new-place, e))
+              (λ m c′. rw (kept-place a m (omega arith) (λ z. let y : ⊥ = omega arith in absurd y)) (hit-before a n w q m c′)),
+        ))
+        (λ c y. (
+          n,
+          w,
+          find-hit E S h (put t i (live k v)) a n w l (kept-place a n l c ∙ p)
+              (λ m c′. rw (kept-place a m (omega arith) (λ z. let y : ⊥ = omega arith in absurd y)) (hit-before a n w q m c′)),
+        ))))
+        (λ s. (
+          n,
+          w,
+          find-hit E S h (put t i (live k v)) a n w l
+              (kept-place a n l (λ z. let y : E .same a k ≡ true = rw (own a w ((ap t (sym (ap (λ x. at S h x) z ∙ at-place S h i inside below))) ∙ p)) (E .self k) in clash (cc)) ∙ p)
+              (λ m c. by-eq m j
+              (λ z y. rw (z, new-place) s)
+              (λ z y. rw (kept-place a m (omega arith) z) (hit-before a n w q m c))),
+        ))
 
 mass-low : {K : Type 0} (f g : K → ℕ) → ((a : K) → f a ≤ g a) → (ks : List K) → mass f ks ≤ mass g ks
 unfolding mass
@@ -153,17 +169,19 @@ module _ {K W : Type 0} (M : Store K W) where
     unfolding spotBy ruleBy need lacking missed weigh hurtful path frees
     one-more (hit n w) q =
         let (l, p) = path-live M m k n w (T .homes m k (r .sized)) q in
-        let wrote = T .over-steady m (slotAt M m k n) k v w (r .sized) (r .unharmed) l p in
-        ((occupied (slotAt M m k n) w (suc n), refl),
-        roomy-after T m _ _ k v l (r .sized) (λ a u e. let y : live k w ≡ live a u = sym p ∙ e in cc) wrote ps (λ g. rw (q, p) (omega arith)) r)
+        let wrote = T .over-steady m (slotAt M m k n) k v w (r .sized) (r .unharmed) l p in (
+          (occupied (slotAt M m k n) w (suc n), refl),
+          roomy-after T m _ _ k v l (r .sized) (λ a u e. let y : live k w ≡ live a u = sym p ∙ e in cc) wrote ps (λ g. rw (q, p) (omega arith)) r,
+        )
     one-more (miss e f) q =
         let l = slot-left e f q in
         let b = bytes-there e f q in
         let (c, d) = free-slot e f q in
         let wrote = T .fill-steady m (slotAt M m k f) k v (r .sized) (r .unharmed) c d b in
-        rw (lt-ltb f (M .size m) l, le-leb (M .weight k) (M .bytes m - used M m) (omega arith))
-        ((vacant (slotAt M m k f) e, refl),
-        roomy-after T m _ _ k v c (r .sized) (λ a u x. let y : true ≡ false = sym d ∙ ap frees x in clash cc) wrote ps (λ g. rw (q, free-weighs g _ d) (omega arith)) r)
+        rw (lt-ltb f (M .size m) l, le-leb (M .weight k) (M .bytes m - used M m) (omega arith)) (
+          (vacant (slotAt M m k f) e, refl),
+          roomy-after T m _ _ k v c (r .sized) (λ a u x. let y : true ≡ false = sym d ∙ ap frees x in clash cc) wrote ps (λ g. rw (q, free-weighs g _ d) (omega arith)) r,
+        )
     one-more hurt q =
         let (n, l, p) = hurt-at (M .keys) (M .size m) (M .home m k) (M .slots m) k q in
         let y : true ≡ false = sym (damaged-bad (M .slots m) (M .size m) (at (M .size m) (M .home m k) n) (at-below (M .size m) (M .home m k) n (T .homes m k (r .sized)) l) p) ∙ r .unhurt in
