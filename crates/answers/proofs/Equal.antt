@@ -23,7 +23,13 @@ use Rattle.answers.specs.declared.Removed.{Removed}
 use Rattle.answers.specs.declared.Removed.the-variants as removed
 use Rattle.answers.specs.declared.Dropped.{Dropped}
 use Rattle.answers.specs.declared.Dropped.the-variants as dropped
-use Rattle.answers.specs.Numbers.{outcomeNumbers, countedNumbers, emptinessNumbers, reservedNumbers, gotNumbers, memberNumbers, containedNumbers, insertedNumbers, addedNumbers, removedNumbers, droppedNumbers}
+use Rattle.answers.specs.declared.Stored.{Stored}
+use Rattle.answers.specs.declared.Stored.the-variants as stored
+use Rattle.answers.specs.declared.Joined.{Joined}
+use Rattle.answers.specs.declared.Joined.the-variants as joined
+use Rattle.answers.specs.declared.Spanned.{Spanned}
+use Rattle.answers.specs.declared.Spanned.the-variants as spanned
+use Rattle.answers.specs.Numbers.{outcomeNumbers, countedNumbers, emptinessNumbers, reservedNumbers, gotNumbers, memberNumbers, containedNumbers, insertedNumbers, addedNumbers, removedNumbers, droppedNumbers, storedNumbers, joinedNumbers, spannedNumbers}
 use Rattle.answers.proofs.Told.{numberOf-injective}
 
 pub outcomeNumbers-injective : (a b : Outcome) → outcomeNumbers a ≡ outcomeNumbers b → a ≡ b
@@ -142,3 +148,39 @@ droppedNumbers-injective (dropped.Absent e) (dropped.Refused r′) q = let z : �
 droppedNumbers-injective (dropped.Refused r) (dropped.Removed s′ e′) q = let z : ⊥ = omega (arith, ap (λ n. n .case) q) in absurd z
 droppedNumbers-injective (dropped.Refused r) (dropped.Absent e′) q = let z : ⊥ = omega (arith, ap (λ n. n .case) q) in absurd z
 droppedNumbers-injective (dropped.Refused r) (dropped.Refused r′) q = ap dropped.Refused (numberOf-injective r r′ (ap (λ n. n .refusal) q))
+
+pub storedNumbers-injective : (a b : Stored) → storedNumbers a ≡ storedNumbers b → a ≡ b
+unfolding storedNumbers
+storedNumbers-injective (stored.Fresh s o e) (stored.Fresh s′ o′ e′) q = cc (ap (λ n. n .slot) q, ap (λ n. n .offset) q, ap (λ n. n .examined) q)
+storedNumbers-injective (stored.Fresh s o e) (stored.Replaced v′ s′ e′) q = let z : ⊥ = omega (arith, ap (λ n. n .case) q) in absurd z
+storedNumbers-injective (stored.Fresh s o e) (stored.Refused r′) q = let z : ⊥ = omega (arith, ap (λ n. n .case) q) in absurd z
+storedNumbers-injective (stored.Replaced v s e) (stored.Fresh s′ o′ e′) q = let z : ⊥ = omega (arith, ap (λ n. n .case) q) in absurd z
+storedNumbers-injective (stored.Replaced v s e) (stored.Replaced v′ s′ e′) q = cc (ap (λ n. n .value) q, ap (λ n. n .slot) q, ap (λ n. n .examined) q)
+storedNumbers-injective (stored.Replaced v s e) (stored.Refused r′) q = let z : ⊥ = omega (arith, ap (λ n. n .case) q) in absurd z
+storedNumbers-injective (stored.Refused r) (stored.Fresh s′ o′ e′) q = let z : ⊥ = omega (arith, ap (λ n. n .case) q) in absurd z
+storedNumbers-injective (stored.Refused r) (stored.Replaced v′ s′ e′) q = let z : ⊥ = omega (arith, ap (λ n. n .case) q) in absurd z
+storedNumbers-injective (stored.Refused r) (stored.Refused r′) q = ap stored.Refused (numberOf-injective r r′ (ap (λ n. n .refusal) q))
+
+pub joinedNumbers-injective : (a b : Joined) → joinedNumbers a ≡ joinedNumbers b → a ≡ b
+unfolding joinedNumbers
+joinedNumbers-injective (joined.Fresh s o e) (joined.Fresh s′ o′ e′) q = cc (ap (λ n. n .slot) q, ap (λ n. n .offset) q, ap (λ n. n .examined) q)
+joinedNumbers-injective (joined.Fresh s o e) (joined.Already s′ e′) q = let z : ⊥ = omega (arith, ap (λ n. n .case) q) in absurd z
+joinedNumbers-injective (joined.Fresh s o e) (joined.Refused r′) q = let z : ⊥ = omega (arith, ap (λ n. n .case) q) in absurd z
+joinedNumbers-injective (joined.Already s e) (joined.Fresh s′ o′ e′) q = let z : ⊥ = omega (arith, ap (λ n. n .case) q) in absurd z
+joinedNumbers-injective (joined.Already s e) (joined.Already s′ e′) q = cc (ap (λ n. n .slot) q, ap (λ n. n .examined) q)
+joinedNumbers-injective (joined.Already s e) (joined.Refused r′) q = let z : ⊥ = omega (arith, ap (λ n. n .case) q) in absurd z
+joinedNumbers-injective (joined.Refused r) (joined.Fresh s′ o′ e′) q = let z : ⊥ = omega (arith, ap (λ n. n .case) q) in absurd z
+joinedNumbers-injective (joined.Refused r) (joined.Already s′ e′) q = let z : ⊥ = omega (arith, ap (λ n. n .case) q) in absurd z
+joinedNumbers-injective (joined.Refused r) (joined.Refused r′) q = ap joined.Refused (numberOf-injective r r′ (ap (λ n. n .refusal) q))
+
+pub spannedNumbers-injective : (a b : Spanned) → spannedNumbers a ≡ spannedNumbers b → a ≡ b
+unfolding spannedNumbers
+spannedNumbers-injective (spanned.Found o l s e) (spanned.Found o′ l′ s′ e′) q = cc (ap (λ n. n .offset) q, ap (λ n. n .length) q, ap (λ n. n .slot) q, ap (λ n. n .examined) q)
+spannedNumbers-injective (spanned.Found o l s e) (spanned.Absent e′) q = let z : ⊥ = omega (arith, ap (λ n. n .case) q) in absurd z
+spannedNumbers-injective (spanned.Found o l s e) (spanned.Refused r′) q = let z : ⊥ = omega (arith, ap (λ n. n .case) q) in absurd z
+spannedNumbers-injective (spanned.Absent e) (spanned.Found o′ l′ s′ e′) q = let z : ⊥ = omega (arith, ap (λ n. n .case) q) in absurd z
+spannedNumbers-injective (spanned.Absent e) (spanned.Absent e′) q = cc (ap (λ n. n .examined) q)
+spannedNumbers-injective (spanned.Absent e) (spanned.Refused r′) q = let z : ⊥ = omega (arith, ap (λ n. n .case) q) in absurd z
+spannedNumbers-injective (spanned.Refused r) (spanned.Found o′ l′ s′ e′) q = let z : ⊥ = omega (arith, ap (λ n. n .case) q) in absurd z
+spannedNumbers-injective (spanned.Refused r) (spanned.Absent e′) q = let z : ⊥ = omega (arith, ap (λ n. n .case) q) in absurd z
+spannedNumbers-injective (spanned.Refused r) (spanned.Refused r′) q = ap spanned.Refused (numberOf-injective r r′ (ap (λ n. n .refusal) q))

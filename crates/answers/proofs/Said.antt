@@ -7,7 +7,7 @@ use Rattle.model.specs.Walk.{Paced, pair, nothing, done}
 use Rattle.model.specs.Demand1.{numberIn}
 use Rattle.model.proofs.Cases.{by-bool}
 use Rattle.answers.specs.declared.Numbers.{Numbers}
-use Rattle.answers.specs.Said.{doneSaid, countSaid, emptySaid, roomSaid, gotSaid, memberSaid, containedSaid, insertedSaid, addedSaid, removedSaid, droppedSaid, stepSaid, enteredSaid, heldSaid, swappedSaid, takenSaid, takenEntrySaid, standingSaid}
+use Rattle.answers.specs.Said.{doneSaid, countSaid, emptySaid, roomSaid, gotSaid, memberSaid, containedSaid, insertedSaid, addedSaid, removedSaid, droppedSaid, stepSaid, enteredSaid, heldSaid, swappedSaid, takenSaid, takenEntrySaid, standingSaid, storedSaid, joinedSaid, spannedSaid}
 
 pub doneSaid-refusal : {A : Type 0} (a : Or A) → doneSaid a .refusal ≡ numberIn a
 unfolding doneSaid numberIn
@@ -108,3 +108,21 @@ pub standingSaid-refusal : (s : ℕ) (a : Or ℕ) → standingSaid s a .refusal 
 unfolding standingSaid numberIn
 standingSaid-refusal s (no n) = refl
 standingSaid-refusal s (ok x) = refl
+
+pub storedSaid-refusal : (o : ℕ) (a : Or (Spot ℕ)) → storedSaid o a .refusal ≡ numberIn a
+unfolding storedSaid numberIn
+storedSaid-refusal o (no n) = refl
+storedSaid-refusal o (ok (occupied i v e)) = refl
+storedSaid-refusal o (ok (vacant i e)) = refl
+
+pub joinedSaid-refusal : {W : Type 0} (o : ℕ) (a : Or (Spot W)) → joinedSaid o a .refusal ≡ numberIn a
+unfolding joinedSaid numberIn
+joinedSaid-refusal o (no n) = refl
+joinedSaid-refusal o (ok (occupied i v e)) = refl
+joinedSaid-refusal o (ok (vacant i e)) = refl
+
+pub spannedSaid-refusal : {W : Type 0} (offset length : ℕ → ℕ) (a : Or (Seen W)) → spannedSaid offset length a .refusal ≡ numberIn a
+unfolding spannedSaid numberIn
+spannedSaid-refusal offset length (no n) = refl
+spannedSaid-refusal offset length (ok (found v i e)) = refl
+spannedSaid-refusal offset length (ok (absent e)) = refl

@@ -26,6 +26,12 @@ use Rattle.answers.specs.declared.Removed.{Removed}
 use Rattle.answers.specs.declared.Removed.the-variants as removed
 use Rattle.answers.specs.declared.Dropped.{Dropped}
 use Rattle.answers.specs.declared.Dropped.the-variants as dropped
+use Rattle.answers.specs.declared.Stored.{Stored}
+use Rattle.answers.specs.declared.Stored.the-variants as stored
+use Rattle.answers.specs.declared.Joined.{Joined}
+use Rattle.answers.specs.declared.Joined.the-variants as joined
+use Rattle.answers.specs.declared.Spanned.{Spanned}
+use Rattle.answers.specs.declared.Spanned.the-variants as spanned
 use Rattle.answers.specs.Refusals.{numberOf}
 
 -- A refusal: its number, and zeros elsewhere.
@@ -101,3 +107,21 @@ unfoldable pub droppedNumbers : Dropped → Numbers
 droppedNumbers (dropped.Removed s e) = record { refusal = 0; case = 11; key = 0; value = 0; slot = s; examined = e; walk = 0; offset = 0; length = 0 }
 droppedNumbers (dropped.Absent e) = record { refusal = 0; case = 8; key = 0; value = 0; slot = 0; examined = e; walk = 0; offset = 0; length = 0 }
 droppedNumbers (dropped.Refused r) = refusalNumbers r
+
+-- Of a byte map's insert: case 9, fresh with slot, offset and examined number, or 10, replaced with the old value, slot and examined number.
+unfoldable pub storedNumbers : Stored → Numbers
+storedNumbers (stored.Fresh s o e) = record { refusal = 0; case = 9; key = 0; value = 0; slot = s; examined = e; walk = 0; offset = o; length = 0 }
+storedNumbers (stored.Replaced v s e) = record { refusal = 0; case = 10; key = 0; value = v; slot = s; examined = e; walk = 0; offset = 0; length = 0 }
+storedNumbers (stored.Refused r) = refusalNumbers r
+
+-- Of a byte set's insert: case 9, fresh with slot, offset and examined number, or 10, already there with slot and examined number.
+unfoldable pub joinedNumbers : Joined → Numbers
+joinedNumbers (joined.Fresh s o e) = record { refusal = 0; case = 9; key = 0; value = 0; slot = s; examined = e; walk = 0; offset = o; length = 0 }
+joinedNumbers (joined.Already s e) = record { refusal = 0; case = 10; key = 0; value = 0; slot = s; examined = e; walk = 0; offset = 0; length = 0 }
+joinedNumbers (joined.Refused r) = refusalNumbers r
+
+-- Of a byte set's get: case 6, found with offset, length, slot and examined number, or 8, absent with examined number.
+unfoldable pub spannedNumbers : Spanned → Numbers
+spannedNumbers (spanned.Found o l s e) = record { refusal = 0; case = 6; key = 0; value = 0; slot = s; examined = e; walk = 0; offset = o; length = l }
+spannedNumbers (spanned.Absent e) = record { refusal = 0; case = 8; key = 0; value = 0; slot = 0; examined = e; walk = 0; offset = 0; length = 0 }
+spannedNumbers (spanned.Refused r) = refusalNumbers r

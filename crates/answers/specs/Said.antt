@@ -1,6 +1,6 @@
 -- The paper's numbers of what the calls of the theory say: a refusal's number and zeros elsewhere, or the numbers of its case.
 -- Assumes nothing.
-use Prim.Native.Nat.{ℕ}
+use Prim.Native.Nat.{ℕ, _-_}
 use mathlib.Core.Bool.{cond}
 use lib.Dec.{eqb}
 use Rattle.model.specs.Calls.{Or, no, ok, Seen, found, absent, Spot, occupied, vacant}
@@ -131,3 +131,32 @@ takenEntrySaid k (ok v) = saidCase 11 k v 0 0
 unfoldable pub standingSaid : ℕ → Or ℕ → Numbers
 standingSaid s (no n) = saidNo n
 standingSaid s (ok v) = saidCase 19 0 v s 0
+
+-- A byte map's insert, with the offset that a fresh key gets: fresh or replaced.
+unfoldable pub storedSaid : ℕ → Or (Spot ℕ) → Numbers
+storedSaid o (no n) = saidNo n
+storedSaid o (ok (vacant s e)) =
+    record { refusal = 0; case = 9; key = 0; value = 0; slot = s; examined = e; walk = 0; offset = o; length = 0 }
+storedSaid o (ok (occupied s v e)) = saidCase 10 0 v s e
+
+-- A byte set's insert, with the offset that a fresh key gets: fresh or already there.
+unfoldable pub joinedSaid : {W : Type 0} → ℕ → Or (Spot W) → Numbers
+joinedSaid o (no n) = saidNo n
+joinedSaid o (ok (vacant s e)) =
+    record { refusal = 0; case = 9; key = 0; value = 0; slot = s; examined = e; walk = 0; offset = o; length = 0 }
+joinedSaid o (ok (occupied s v e)) = saidCase 10 0 0 s e
+
+-- A byte set's get, by the offset and the length of each slot: the stored key's span, or absent.
+unfoldable pub spannedSaid : {W : Type 0} → (ℕ → ℕ) → (ℕ → ℕ) → Or (Seen W) → Numbers
+spannedSaid offset length (no n) = saidNo n
+spannedSaid offset length (ok (found v s e)) =
+    record { refusal = 0; case = 6; key = 0; value = 0; slot = s; examined = e; walk = 0; offset = offset s; length = length s }
+spannedSaid offset length (ok (absent e)) = saidCase 8 0 0 0 e
+
+-- A byte map hands out the key's offset and length, and the value; the pair's slot is the one before the walk.
+abbrev pub spanHanded : {K : Type 0} → (ℕ → ℕ) → (ℕ → ℕ) → K → ℕ → ℕ → ℕ → Numbers
+spanHanded offset length k v x e = handed 0 v (offset (x - 1)) (length (x - 1)) x e
+
+-- A byte set hands out the key's offset and length.
+abbrev pub spanOnlyHanded : {K : Type 0} → (ℕ → ℕ) → (ℕ → ℕ) → K → Unit {0} → ℕ → ℕ → Numbers
+spanOnlyHanded offset length k v x e = handed 0 0 (offset (x - 1)) (length (x - 1)) x e

@@ -123,3 +123,24 @@ pub fn number(r: Refusal) -> u64
         Refusal::NoBytes => 8,
     }
 }
+
+// The answer of a byte map's insert: the slot and the examined number, with the key's offset where it is fresh, the old value where one was replaced.
+pub enum Stored {
+    Fresh(usize, usize, usize),
+    Replaced(u64, usize, usize),
+    Refused(Refusal),
+}
+
+// The answer of a byte set's insert: the slot and the examined number, with the key's offset where it is fresh.
+pub enum Joined {
+    Fresh(usize, usize, usize),
+    Already(usize, usize),
+    Refused(Refusal),
+}
+
+// The answer of a byte set's get: the stored key's offset and length, its slot and the examined number.
+pub enum Spanned {
+    Found(usize, usize, usize, usize),
+    Absent(usize),
+    Refused(Refusal),
+}

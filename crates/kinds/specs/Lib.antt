@@ -1,4 +1,5 @@
 -- The definitions that all kinds of tables share.
+pub mod Calls
 pub mod Columns
 pub mod Marks
 pub mod Probing
