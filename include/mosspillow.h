@@ -1,5 +1,8 @@
 /* Mosspillow for C and C++: maps and sets over lent slot arrays.
- * Link with target/staticlib/libmosspillow.a (x86-64), which `rt staticlib mosspillow` writes. */
+ * Link with target/staticlib/libmosspillow.a (x86-64), which `rt staticlib mosspillow` writes.
+ *
+ * A call takes each lent array as a pointer and a count of elements. The arrays lent to one call must not overlap. A null
+ * pointer is allowed where the count is 0. Any contents are allowed: a call answers, or refuses and stores nothing. */
 #ifndef MOSSPILLOW_H
 #define MOSSPILLOW_H
 
@@ -7,17 +10,209 @@
 #include <stdint.h>
 
 #ifdef __cplusplus
+#define MOSS_RESTRICT
 extern "C" {
+#else
+#define MOSS_RESTRICT restrict
 #endif
 
-/* The digest (FNV-1a, 64 bits) of `length` bytes, of any length.
- * A null pointer with length 0 is an empty key. */
+/* Why a call is refused. Of those that apply the lowest is given. */
+enum {
+    MOSS_REFUSED_SIZES = 1,       /* lent arrays disagree in count, no slots or above 4096, copy: sizes differ */
+    MOSS_REFUSED_LONG_KEY = 2,    /* byte key above 255 bytes */
+    MOSS_REFUSED_NO_BUDGET = 3,   /* walk step with budget 0 */
+    MOSS_REFUSED_WALK_BEYOND = 4, /* walk beyond the last slot */
+    MOSS_REFUSED_DAMAGED = 5,     /* an examined slot has a mark above 2 */
+    MOSS_REFUSED_BAD_HANDLE = 6,  /* handle not good */
+    MOSS_REFUSED_NO_SLOT = 7,     /* too few free slots */
+    MOSS_REFUSED_NO_BYTES = 8     /* too few free bytes */
+};
+
+/* What a call that is not refused answers. */
+enum {
+    MOSS_DONE = 1,
+    MOSS_COUNT = 2,
+    MOSS_EMPTY = 3,
+    MOSS_HOLDS = 4,
+    MOSS_ROOM = 5,
+    MOSS_FOUND = 6,
+    MOSS_PRESENT = 7,
+    MOSS_ABSENT = 8,
+    MOSS_FRESH = 9,
+    MOSS_REPLACED = 10,
+    MOSS_REMOVED = 11,
+    MOSS_OCCUPIED = 12,
+    MOSS_VACANT = 13,
+    MOSS_PAIR = 14,
+    MOSS_NOTHING = 15,
+    MOSS_WALK_DONE = 16,
+    MOSS_VALUE = 17,
+    MOSS_WAS = 18,
+    MOSS_NOW = 19
+};
+
+/* An answer. Numbers that it does not have are 0. */
+typedef struct moss_answer {
+    uint64_t refusal;  /* 0, or why the call is refused */
+    uint64_t which;    /* the case, 0 where refused */
+    uint64_t key;
+    uint64_t value;    /* also a count */
+    uint64_t slot;     /* also an entry's handle */
+    uint64_t examined; /* how many slots the key's path, or the step, examined */
+    uint64_t walk;     /* where the walk stands */
+    uint64_t offset;
+    uint64_t length;
+} moss_answer;
+
+/* The digest (FNV-1a, 64 bits) of `length` bytes, of any length. */
 uint64_t moss_digest(const uint8_t *bytes, size_t length);
 
 /* The home slot of a byte key among `slots` slots: its digest modulo `slots`.
  * Where it is refused, 65536 plus the number of the refusal: 65537 where `slots` is 0 or above 4096, and else
- * 65538 where `length` is above 255. A null pointer with length 0 is an empty key. */
+ * 65538 where `length` is above 255. */
 uint64_t moss_home(const uint8_t *bytes, size_t length, uint64_t slots);
+
+/* The integer map: marks, u64 keys and u64 values. A handle is the slot that an entry answers, with the key given again; where
+ * `which` is asked it is the answer's case, and a number that is neither MOSS_OCCUPIED nor MOSS_VACANT is no good handle. */
+
+/* Makes an empty map of the lent arrays: every mark and word becomes 0. MOSS_DONE. Refuses 1. */
+moss_answer moss_int_map_make(uint8_t *MOSS_RESTRICT marks, size_t marks_count, uint64_t *MOSS_RESTRICT keys, size_t keys_count,
+    uint64_t *MOSS_RESTRICT values, size_t values_count);
+
+/* Empties a map, as make does. MOSS_DONE. Refuses 1. */
+moss_answer moss_int_map_clear(uint8_t *MOSS_RESTRICT marks, size_t marks_count, uint64_t *MOSS_RESTRICT keys, size_t keys_count,
+    uint64_t *MOSS_RESTRICT values, size_t values_count);
+
+/* The number of slots. MOSS_COUNT with value. Refuses 1. */
+moss_answer moss_int_map_capacity(const uint8_t *MOSS_RESTRICT marks, size_t marks_count, const uint64_t *MOSS_RESTRICT keys, size_t keys_count,
+    const uint64_t *MOSS_RESTRICT values, size_t values_count);
+
+/* The number of keys. MOSS_COUNT with value. Refuses 1, 5. */
+moss_answer moss_int_map_len(const uint8_t *MOSS_RESTRICT marks, size_t marks_count, const uint64_t *MOSS_RESTRICT keys, size_t keys_count,
+    const uint64_t *MOSS_RESTRICT values, size_t values_count);
+
+/* Whether there is no key. MOSS_EMPTY or MOSS_HOLDS. Refuses 1, 5. */
+moss_answer moss_int_map_is_empty(const uint8_t *MOSS_RESTRICT marks, size_t marks_count, const uint64_t *MOSS_RESTRICT keys, size_t keys_count,
+    const uint64_t *MOSS_RESTRICT values, size_t values_count);
+
+/* Whether `asked` slots or more are not live. MOSS_ROOM. Refuses 1, 5, 7. */
+moss_answer moss_int_map_reserve(const uint8_t *MOSS_RESTRICT marks, size_t marks_count, const uint64_t *MOSS_RESTRICT keys, size_t keys_count,
+    const uint64_t *MOSS_RESTRICT values, size_t values_count, uint64_t asked);
+
+/* The value of a key. MOSS_FOUND with value, slot and examined, or MOSS_ABSENT with examined. Refuses 1, 5. */
+moss_answer moss_int_map_get(const uint8_t *MOSS_RESTRICT marks, size_t marks_count, const uint64_t *MOSS_RESTRICT keys, size_t keys_count,
+    const uint64_t *MOSS_RESTRICT values, size_t values_count, uint64_t key);
+
+/* Whether a key is there. MOSS_PRESENT or MOSS_ABSENT with examined. Refuses 1, 5. */
+moss_answer moss_int_map_contains_key(const uint8_t *MOSS_RESTRICT marks, size_t marks_count, const uint64_t *MOSS_RESTRICT keys, size_t keys_count,
+    const uint64_t *MOSS_RESTRICT values, size_t values_count, uint64_t key);
+
+/* Gives a key its value. MOSS_FRESH with slot and examined, or MOSS_REPLACED with the old value too. Refuses 1, 5, 7. */
+moss_answer moss_int_map_insert(uint8_t *MOSS_RESTRICT marks, size_t marks_count, uint64_t *MOSS_RESTRICT keys, size_t keys_count,
+    uint64_t *MOSS_RESTRICT values, size_t values_count, uint64_t key, uint64_t value);
+
+/* Takes a key out. MOSS_REMOVED with its value, slot and examined, or MOSS_ABSENT with examined. Refuses 1, 5. */
+moss_answer moss_int_map_remove(uint8_t *MOSS_RESTRICT marks, size_t marks_count, uint64_t *MOSS_RESTRICT keys, size_t keys_count,
+    uint64_t *MOSS_RESTRICT values, size_t values_count, uint64_t key);
+
+/* Makes the map of the to_ arrays equal to the other in every slot; both have the same sizes. MOSS_DONE. Refuses 1. */
+moss_answer moss_int_map_copy(uint8_t *MOSS_RESTRICT to_marks, size_t to_marks_count, uint64_t *MOSS_RESTRICT to_keys, size_t to_keys_count,
+    uint64_t *MOSS_RESTRICT to_values, size_t to_values_count, const uint8_t *MOSS_RESTRICT marks, size_t marks_count,
+    const uint64_t *MOSS_RESTRICT keys, size_t keys_count, const uint64_t *MOSS_RESTRICT values, size_t values_count);
+
+/* Puts the right's pairs into the left (marks, keys, values), all or none; the right may have another slot count.
+ * MOSS_DONE. Refuses 1, 5, 7. */
+moss_answer moss_int_map_union_prefer_right(uint8_t *MOSS_RESTRICT marks, size_t marks_count, uint64_t *MOSS_RESTRICT keys, size_t keys_count,
+    uint64_t *MOSS_RESTRICT values, size_t values_count, const uint8_t *MOSS_RESTRICT right_marks, size_t right_marks_count,
+    const uint64_t *MOSS_RESTRICT right_keys, size_t right_keys_count, const uint64_t *MOSS_RESTRICT right_values, size_t right_values_count);
+
+/* Where a key stands or would go. MOSS_OCCUPIED with slot, value and examined, or MOSS_VACANT with slot and examined. Refuses 1, 5, 7. */
+moss_answer moss_int_map_entry(const uint8_t *MOSS_RESTRICT marks, size_t marks_count, const uint64_t *MOSS_RESTRICT keys, size_t keys_count,
+    const uint64_t *MOSS_RESTRICT values, size_t values_count, uint64_t key);
+
+/* An occupied handle's value. MOSS_VALUE with value and slot. Refuses 1, 5, 6. */
+moss_answer moss_int_map_occupied_get(const uint8_t *MOSS_RESTRICT marks, size_t marks_count, const uint64_t *MOSS_RESTRICT keys, size_t keys_count,
+    const uint64_t *MOSS_RESTRICT values, size_t values_count, uint64_t slot, uint64_t key);
+
+/* Gives an occupied handle's slot another value. MOSS_WAS with the old value and slot. Refuses 1, 5, 6. */
+moss_answer moss_int_map_occupied_set(uint8_t *MOSS_RESTRICT marks, size_t marks_count, uint64_t *MOSS_RESTRICT keys, size_t keys_count,
+    uint64_t *MOSS_RESTRICT values, size_t values_count, uint64_t slot, uint64_t key, uint64_t value);
+
+/* Frees an occupied handle's slot. MOSS_REMOVED with value. Refuses 1, 5, 6. */
+moss_answer moss_int_map_occupied_remove(uint8_t *MOSS_RESTRICT marks, size_t marks_count, uint64_t *MOSS_RESTRICT keys, size_t keys_count,
+    uint64_t *MOSS_RESTRICT values, size_t values_count, uint64_t slot, uint64_t key);
+
+/* The same, with the key told too. MOSS_REMOVED with key and value. Refuses 1, 5, 6. */
+moss_answer moss_int_map_occupied_remove_entry(uint8_t *MOSS_RESTRICT marks, size_t marks_count, uint64_t *MOSS_RESTRICT keys, size_t keys_count,
+    uint64_t *MOSS_RESTRICT values, size_t values_count, uint64_t slot, uint64_t key);
+
+/* Puts the key and a value into a vacant handle's slot. MOSS_NOW with value and slot. Refuses 1, 5, 6. */
+moss_answer moss_int_map_vacant_insert(uint8_t *MOSS_RESTRICT marks, size_t marks_count, uint64_t *MOSS_RESTRICT keys, size_t keys_count,
+    uint64_t *MOSS_RESTRICT values, size_t values_count, uint64_t slot, uint64_t key, uint64_t value);
+
+/* Keeps the value of an occupied handle, or puts `value` into a vacant one's slot. MOSS_NOW with the value now there
+ * and slot. Refuses 1, 5, 6. */
+moss_answer moss_int_map_or_insert(uint8_t *MOSS_RESTRICT marks, size_t marks_count, uint64_t *MOSS_RESTRICT keys, size_t keys_count,
+    uint64_t *MOSS_RESTRICT values, size_t values_count, uint64_t which, uint64_t slot, uint64_t key, uint64_t value);
+
+/* Gives an occupied handle's slot the value, or puts it into a vacant one's slot. MOSS_NOW with value and slot. Refuses 1, 5, 6. */
+moss_answer moss_int_map_insert_entry(uint8_t *MOSS_RESTRICT marks, size_t marks_count, uint64_t *MOSS_RESTRICT keys, size_t keys_count,
+    uint64_t *MOSS_RESTRICT values, size_t values_count, uint64_t which, uint64_t slot, uint64_t key, uint64_t value);
+
+/* Where a walk starts: 0. */
+uint64_t moss_int_map_walk_start(void);
+
+/* One step of a walk over at most `budget` slots. MOSS_PAIR with key, value, walk and examined, MOSS_NOTHING with walk and
+ * examined, or MOSS_WALK_DONE with walk. Refuses 1, 3, 4, 5, with the walk as it came. */
+moss_answer moss_int_map_step(const uint8_t *MOSS_RESTRICT marks, size_t marks_count, const uint64_t *MOSS_RESTRICT keys, size_t keys_count,
+    const uint64_t *MOSS_RESTRICT values, size_t values_count, uint64_t walk, uint64_t budget);
+
+/* The integer set: marks and u64 keys. */
+
+/* Makes an empty set of the lent arrays: every mark and word becomes 0. MOSS_DONE. Refuses 1. */
+moss_answer moss_int_set_make(uint8_t *MOSS_RESTRICT marks, size_t marks_count, uint64_t *MOSS_RESTRICT keys, size_t keys_count);
+
+/* Empties a set, as make does. MOSS_DONE. Refuses 1. */
+moss_answer moss_int_set_clear(uint8_t *MOSS_RESTRICT marks, size_t marks_count, uint64_t *MOSS_RESTRICT keys, size_t keys_count);
+
+/* The number of slots. MOSS_COUNT with value. Refuses 1. */
+moss_answer moss_int_set_capacity(const uint8_t *MOSS_RESTRICT marks, size_t marks_count, const uint64_t *MOSS_RESTRICT keys, size_t keys_count);
+
+/* The number of keys. MOSS_COUNT with value. Refuses 1, 5. */
+moss_answer moss_int_set_len(const uint8_t *MOSS_RESTRICT marks, size_t marks_count, const uint64_t *MOSS_RESTRICT keys, size_t keys_count);
+
+/* Whether there is no key. MOSS_EMPTY or MOSS_HOLDS. Refuses 1, 5. */
+moss_answer moss_int_set_is_empty(const uint8_t *MOSS_RESTRICT marks, size_t marks_count, const uint64_t *MOSS_RESTRICT keys, size_t keys_count);
+
+/* Whether `asked` slots or more are not live. MOSS_ROOM. Refuses 1, 5, 7. */
+moss_answer moss_int_set_reserve(const uint8_t *MOSS_RESTRICT marks, size_t marks_count, const uint64_t *MOSS_RESTRICT keys, size_t keys_count,
+    uint64_t asked);
+
+/* The key itself. MOSS_FOUND with key, slot and examined, or MOSS_ABSENT with examined. Refuses 1, 5. */
+moss_answer moss_int_set_get(const uint8_t *MOSS_RESTRICT marks, size_t marks_count, const uint64_t *MOSS_RESTRICT keys, size_t keys_count,
+    uint64_t key);
+
+/* Whether a key is there. MOSS_PRESENT or MOSS_ABSENT with examined. Refuses 1, 5. */
+moss_answer moss_int_set_contains(const uint8_t *MOSS_RESTRICT marks, size_t marks_count, const uint64_t *MOSS_RESTRICT keys, size_t keys_count,
+    uint64_t key);
+
+/* Puts a key in. MOSS_FRESH, or MOSS_REPLACED where it was there already, with slot and examined. Refuses 1, 5, 7. */
+moss_answer moss_int_set_insert(uint8_t *MOSS_RESTRICT marks, size_t marks_count, uint64_t *MOSS_RESTRICT keys, size_t keys_count, uint64_t key);
+
+/* Takes a key out. MOSS_REMOVED with slot and examined, or MOSS_ABSENT with examined. Refuses 1, 5. */
+moss_answer moss_int_set_remove(uint8_t *MOSS_RESTRICT marks, size_t marks_count, uint64_t *MOSS_RESTRICT keys, size_t keys_count, uint64_t key);
+
+/* Makes the set of the to_ arrays equal to the other in every slot; both have the same sizes. MOSS_DONE. Refuses 1. */
+moss_answer moss_int_set_copy(uint8_t *MOSS_RESTRICT to_marks, size_t to_marks_count, uint64_t *MOSS_RESTRICT to_keys, size_t to_keys_count,
+    const uint8_t *MOSS_RESTRICT marks, size_t marks_count, const uint64_t *MOSS_RESTRICT keys, size_t keys_count);
+
+/* Where a walk starts: 0. */
+uint64_t moss_int_set_walk_start(void);
+
+/* One step of a walk over at most `budget` slots. MOSS_PAIR with key, walk and examined, MOSS_NOTHING with walk and
+ * examined, or MOSS_WALK_DONE with walk. Refuses 1, 3, 4, 5, with the walk as it came. */
+moss_answer moss_int_set_step(const uint8_t *MOSS_RESTRICT marks, size_t marks_count, const uint64_t *MOSS_RESTRICT keys, size_t keys_count,
+    uint64_t walk, uint64_t budget);
 
 #ifdef __cplusplus
 }

@@ -1,6 +1,8 @@
 // What the calls answer: refusals with the paper's numbers, the record of the paper's numbers, and the answer of the home slot.
 ghost use mathlib.Core.Path.{_≡_};
 ghost use Rattle.answers.specs.Refusals.{numberOf};
+ghost use Rattle.answers.specs.Said.{saidCase};
+ghost use Rattle.answers.specs.Numbers.{refusalNumbers, outcomeNumbers, countedNumbers, emptinessNumbers, reservedNumbers, gotNumbers, memberNumbers, containedNumbers, insertedNumbers, addedNumbers, removedNumbers, droppedNumbers};
 
 // What a call may say no with, in the order of the paper's table.
 pub enum Refusal {
@@ -143,4 +145,155 @@ pub enum Spanned {
     Found(usize, usize, usize, usize),
     Absent(usize),
     Refused(Refusal),
+
+// The numbers of a refusal: its own, and zeros elsewhere.
+pub fn refusal_numbers(r: Refusal) -> Numbers
+    ensures { λ n. ⌜ n ≡ refusalNumbers r ⌝ }
+{
+    Numbers {
+        refusal: number(r),
+        case: 0,
+        key: 0,
+        value: 0,
+        slot: 0,
+        examined: 0,
+        walk: 0,
+        offset: 0,
+        length: 0,
+    }
+}
+
+// The numbers of a case with what it carries.
+pub fn case_numbers(case: u64, key: u64, value: u64, slot: usize, examined: usize) -> Numbers
+    ensures { λ n. ⌜ n ≡ saidCase case key value slot examined ⌝ }
+{
+    Numbers {
+        refusal: 0,
+        case,
+        key,
+        value,
+        slot: slot as u64,
+        examined: examined as u64,
+        walk: 0,
+        offset: 0,
+        length: 0,
+    }
+}
+
+// The numbers of make, clear, copy and union.
+pub fn outcome_numbers(a: Outcome) -> Numbers
+    ensures { λ n. ⌜ n ≡ outcomeNumbers a ⌝ }
+{
+    match a {
+        Outcome::Done => case_numbers(1, 0, 0, 0, 0),
+        Outcome::Refused(r) => refusal_numbers(r),
+    }
+}
+
+// The numbers of capacity and length.
+pub fn counted_numbers(a: Counted) -> Numbers
+    ensures { λ n. ⌜ n ≡ countedNumbers a ⌝ }
+{
+    match a {
+        Counted::Count(n) => case_numbers(2, 0, n as u64, 0, 0),
+        Counted::Refused(r) => refusal_numbers(r),
+    }
+}
+
+// The numbers of is_empty.
+pub fn emptiness_numbers(a: Emptiness) -> Numbers
+    ensures { λ n. ⌜ n ≡ emptinessNumbers a ⌝ }
+{
+    match a {
+        Emptiness::Empty => case_numbers(3, 0, 0, 0, 0),
+        Emptiness::Holds => case_numbers(4, 0, 0, 0, 0),
+        Emptiness::Refused(r) => refusal_numbers(r),
+    }
+}
+
+// The numbers of reserve.
+pub fn reserved_numbers(a: Reserved) -> Numbers
+    ensures { λ n. ⌜ n ≡ reservedNumbers a ⌝ }
+{
+    match a {
+        Reserved::Room => case_numbers(5, 0, 0, 0, 0),
+        Reserved::Refused(r) => refusal_numbers(r),
+    }
+}
+
+// The numbers of a map's get.
+pub fn got_numbers(a: Got) -> Numbers
+    ensures { λ n. ⌜ n ≡ gotNumbers a ⌝ }
+{
+    match a {
+        Got::Found(value, slot, examined) => case_numbers(6, 0, value, slot, examined),
+        Got::Absent(examined) => case_numbers(8, 0, 0, 0, examined),
+        Got::Refused(r) => refusal_numbers(r),
+    }
+}
+
+// The numbers of an integer set's get.
+pub fn member_numbers(a: Member) -> Numbers
+    ensures { λ n. ⌜ n ≡ memberNumbers a ⌝ }
+{
+    match a {
+        Member::Found(key, slot, examined) => case_numbers(6, key, 0, slot, examined),
+        Member::Absent(examined) => case_numbers(8, 0, 0, 0, examined),
+        Member::Refused(r) => refusal_numbers(r),
+    }
+}
+
+// The numbers of contains.
+pub fn contained_numbers(a: Contained) -> Numbers
+    ensures { λ n. ⌜ n ≡ containedNumbers a ⌝ }
+{
+    match a {
+        Contained::Present(examined) => case_numbers(7, 0, 0, 0, examined),
+        Contained::Absent(examined) => case_numbers(8, 0, 0, 0, examined),
+        Contained::Refused(r) => refusal_numbers(r),
+    }
+}
+
+// The numbers of an integer map's insert.
+pub fn inserted_numbers(a: Inserted) -> Numbers
+    ensures { λ n. ⌜ n ≡ insertedNumbers a ⌝ }
+{
+    match a {
+        Inserted::Fresh(slot, examined) => case_numbers(9, 0, 0, slot, examined),
+        Inserted::Replaced(old, slot, examined) => case_numbers(10, 0, old, slot, examined),
+        Inserted::Refused(r) => refusal_numbers(r),
+    }
+}
+
+// The numbers of an integer set's insert.
+pub fn added_numbers(a: Added) -> Numbers
+    ensures { λ n. ⌜ n ≡ addedNumbers a ⌝ }
+{
+    match a {
+        Added::Fresh(slot, examined) => case_numbers(9, 0, 0, slot, examined),
+        Added::Already(slot, examined) => case_numbers(10, 0, 0, slot, examined),
+        Added::Refused(r) => refusal_numbers(r),
+    }
+}
+
+// The numbers of a map's remove.
+pub fn removed_numbers(a: Removed) -> Numbers
+    ensures { λ n. ⌜ n ≡ removedNumbers a ⌝ }
+{
+    match a {
+        Removed::Removed(old, slot, examined) => case_numbers(11, 0, old, slot, examined),
+        Removed::Absent(examined) => case_numbers(8, 0, 0, 0, examined),
+        Removed::Refused(r) => refusal_numbers(r),
+    }
+}
+
+// The numbers of a set's remove.
+pub fn dropped_numbers(a: Dropped) -> Numbers
+    ensures { λ n. ⌜ n ≡ droppedNumbers a ⌝ }
+{
+    match a {
+        Dropped::Removed(slot, examined) => case_numbers(11, 0, 0, slot, examined),
+        Dropped::Absent(examined) => case_numbers(8, 0, 0, 0, examined),
+        Dropped::Refused(r) => refusal_numbers(r),
+    }
 }

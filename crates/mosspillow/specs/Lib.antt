@@ -1,2 +1,3 @@
--- What the C library hands back.
+-- What the C library hands back, and what it is handed.
 pub mod Returned
+pub mod Handed

@@ -4,10 +4,16 @@ ghost use Rattle.answers.specs.Numbers.{homedNumbers};
 ghost use Rattle.digest.specs.Digest.{digestOf};
 ghost use Rattle.digest.specs.Home.{homedOf};
 ghost use Rattle.mosspillow.specs.Returned.{returned};
+ghost use Rattle.mosspillow.specs.Handed.{walked};
 use answers::Homed;
+use answers::Numbers;
 use answers::number;
 use digest::digest;
 use digest::home;
+
+pub mod int_entries;
+pub mod int_maps;
+pub mod int_sets;
 
 // What is added to a refusal's number where C is handed one word.
 const REFUSED: u64 = 65536;
@@ -29,5 +35,29 @@ pub extern "C" fn moss_home(bytes: &[u8], slots: u64) -> u64
     match answer {
         Homed::At(slot) => slot,
         Homed::Refused(refusal) => REFUSED + number(refusal),
+    }
+}
+
+// The numbers of a step that left its walk at this slot.
+fn walk_numbers(
+    refusal: u64,
+    case: u64,
+    key: u64,
+    value: u64,
+    examined: usize,
+    walk: usize,
+) -> Numbers
+    ensures { λ n. ⌜ n ≡ walked refusal case key value examined walk ⌝ }
+{
+    Numbers {
+        refusal,
+        case,
+        key,
+        value,
+        slot: 0,
+        examined: examined as u64,
+        walk: walk as u64,
+        offset: 0,
+        length: 0,
     }
 }

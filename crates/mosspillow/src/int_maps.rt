@@ -1,0 +1,206 @@
+// The integer map for C: each call as int_map, int_union and int_walk have it, its answer as numbers.
+ghost use mathlib.Core.Path.{_≡_};
+ghost use Rattle.kinds.specs.Told.{told};
+ghost use Rattle.ints.specs.Memory.{memory};
+ghost use Rattle.int_map.specs.Calls.{makeOf, capacityOf, lenOf, isEmptyOf, reserveOf, getOf, containsKeyOf, insertOf, removeOf, copyOf};
+ghost use Rattle.int_union.specs.Calls.{unionOf};
+ghost use Rattle.int_walk.specs.Calls.{stepOf};
+ghost use Rattle.int_walk.specs.Numbers.{stepNumbers};
+use crate::walk_numbers;
+use answers::Numbers;
+use answers::contained_numbers;
+use answers::counted_numbers;
+use answers::emptiness_numbers;
+use answers::got_numbers;
+use answers::inserted_numbers;
+use answers::number;
+use answers::outcome_numbers;
+use answers::removed_numbers;
+use answers::reserved_numbers;
+use int_walk::Paced;
+use int_walk::Step;
+use int_walk::Walk;
+
+// Makes an empty map of the lent arrays.
+#[no_mangle]
+pub extern "C" fn moss_int_map_make(
+    marks: &mut [u8],
+    keys: &mut [u64],
+    values: &mut [u64],
+) -> Numbers
+    ensures { λ r. ⌜ told r (memory (now (marks .exit)) (now (keys .exit)) (now (values .exit))) ≡ makeOf (memory (now (marks .entry)) (now (keys .entry)) (now (values .entry))) ⌝ }
+{
+    outcome_numbers(int_map::make(marks, keys, values))
+}
+
+// Empties a map.
+#[no_mangle]
+pub extern "C" fn moss_int_map_clear(
+    marks: &mut [u8],
+    keys: &mut [u64],
+    values: &mut [u64],
+) -> Numbers
+    ensures { λ r. ⌜ told r (memory (now (marks .exit)) (now (keys .exit)) (now (values .exit))) ≡ makeOf (memory (now (marks .entry)) (now (keys .entry)) (now (values .entry))) ⌝ }
+{
+    outcome_numbers(int_map::clear(marks, keys, values))
+}
+
+// The number of slots.
+#[no_mangle]
+pub extern "C" fn moss_int_map_capacity(marks: &[u8], keys: &[u64], values: &[u64]) -> Numbers
+    ensures { λ r. ⌜ r ≡ capacityOf (memory (now (marks .entry)) (now (keys .entry)) (now (values .entry))) ⌝ }
+{
+    counted_numbers(int_map::capacity(marks, keys, values))
+}
+
+// The number of keys.
+#[no_mangle]
+pub extern "C" fn moss_int_map_len(marks: &[u8], keys: &[u64], values: &[u64]) -> Numbers
+    ensures { λ r. ⌜ r ≡ lenOf (memory (now (marks .entry)) (now (keys .entry)) (now (values .entry))) ⌝ }
+{
+    counted_numbers(int_map::len(marks, keys, values))
+}
+
+// Whether there is no key.
+#[no_mangle]
+pub extern "C" fn moss_int_map_is_empty(marks: &[u8], keys: &[u64], values: &[u64]) -> Numbers
+    ensures { λ r. ⌜ r ≡ isEmptyOf (memory (now (marks .entry)) (now (keys .entry)) (now (values .entry))) ⌝ }
+{
+    emptiness_numbers(int_map::is_empty(marks, keys, values))
+}
+
+// Whether so many slots are not live.
+#[no_mangle]
+pub extern "C" fn moss_int_map_reserve(
+    marks: &[u8],
+    keys: &[u64],
+    values: &[u64],
+    asked: u64,
+) -> Numbers
+    ensures { λ r. ⌜ r ≡ reserveOf (memory (now (marks .entry)) (now (keys .entry)) (now (values .entry))) asked ⌝ }
+{
+    reserved_numbers(int_map::reserve(marks, keys, values, asked))
+}
+
+// The value of a key.
+#[no_mangle]
+pub extern "C" fn moss_int_map_get(marks: &[u8], keys: &[u64], values: &[u64], key: u64) -> Numbers
+    ensures { λ r. ⌜ r ≡ getOf (memory (now (marks .entry)) (now (keys .entry)) (now (values .entry))) key ⌝ }
+{
+    got_numbers(int_map::get(marks, keys, values, key))
+}
+
+// Whether a key is there.
+#[no_mangle]
+pub extern "C" fn moss_int_map_contains_key(
+    marks: &[u8],
+    keys: &[u64],
+    values: &[u64],
+    key: u64,
+) -> Numbers
+    ensures { λ r. ⌜ r ≡ containsKeyOf (memory (now (marks .entry)) (now (keys .entry)) (now (values .entry))) key ⌝ }
+{
+    contained_numbers(int_map::contains_key(marks, keys, values, key))
+}
+
+// Gives a key its value.
+#[no_mangle]
+pub extern "C" fn moss_int_map_insert(
+    marks: &mut [u8],
+    keys: &mut [u64],
+    values: &mut [u64],
+    key: u64,
+    value: u64,
+) -> Numbers
+    ensures { λ r. ⌜ told r (memory (now (marks .exit)) (now (keys .exit)) (now (values .exit))) ≡ insertOf (memory (now (marks .entry)) (now (keys .entry)) (now (values .entry))) key value ⌝ }
+{
+    inserted_numbers(int_map::insert(marks, keys, values, key, value))
+}
+
+// Takes a key out.
+#[no_mangle]
+pub extern "C" fn moss_int_map_remove(
+    marks: &mut [u8],
+    keys: &mut [u64],
+    values: &mut [u64],
+    key: u64,
+) -> Numbers
+    ensures { λ r. ⌜ told r (memory (now (marks .exit)) (now (keys .exit)) (now (values .exit))) ≡ removeOf (memory (now (marks .entry)) (now (keys .entry)) (now (values .entry))) key ⌝ }
+{
+    removed_numbers(int_map::remove(marks, keys, values, key))
+}
+
+// Makes a map equal to another of equal sizes.
+#[no_mangle]
+pub extern "C" fn moss_int_map_copy(
+    to_marks: &mut [u8],
+    to_keys: &mut [u64],
+    to_values: &mut [u64],
+    marks: &[u8],
+    keys: &[u64],
+    values: &[u64],
+) -> Numbers
+    ensures { λ r. ⌜ told r (memory (now («to_marks» .exit)) (now («to_keys» .exit)) (now («to_values» .exit))) ≡ copyOf (memory (now («to_marks» .entry)) (now («to_keys» .entry)) (now («to_values» .entry))) (memory (now (marks .entry)) (now (keys .entry)) (now (values .entry))) ⌝ }
+{
+    outcome_numbers(int_map::copy(to_marks, to_keys, to_values, marks, keys, values))
+}
+
+// Puts the right's pairs into the left, all or none.
+#[no_mangle]
+pub extern "C" fn moss_int_map_union_prefer_right(
+    marks: &mut [u8],
+    keys: &mut [u64],
+    values: &mut [u64],
+    right_marks: &[u8],
+    right_keys: &[u64],
+    right_values: &[u64],
+) -> Numbers
+    ensures { λ r. ⌜ told r (memory (now (marks .exit)) (now (keys .exit)) (now (values .exit))) ≡ unionOf (memory (now (marks .entry)) (now (keys .entry)) (now (values .entry))) (memory (now («right_marks» .entry)) (now («right_keys» .entry)) (now («right_values» .entry))) ⌝ }
+{
+    outcome_numbers(int_union::union_prefer_right(
+        marks,
+        keys,
+        values,
+        right_marks,
+        right_keys,
+        right_values,
+    ))
+}
+
+// The numbers of a step of a walk.
+fn step_numbers(s: Step) -> Numbers
+    ensures { λ n. ⌜ n ≡ stepNumbers s ⌝ }
+{
+    let at = s.walk.at;
+    let examined = s.examined;
+    let out = s.out;
+    match out {
+        Paced::Pair(key, value) => walk_numbers(0, 14, key, value, examined, at),
+        Paced::Nothing => walk_numbers(0, 15, 0, 0, examined, at),
+        Paced::Done => walk_numbers(0, 16, 0, 0, examined, at),
+        Paced::Refused(r) => walk_numbers(number(r), 0, 0, 0, examined, at),
+    }
+}
+
+// Where a walk starts.
+#[no_mangle]
+pub extern "C" fn moss_int_map_walk_start() -> u64
+    ensures { λ r. ⌜ r ≡ 0 ⌝ }
+{
+    Walk::start().at as u64
+}
+
+// One step of a walk with a budget of slots.
+#[no_mangle]
+pub extern "C" fn moss_int_map_step(
+    marks: &[u8],
+    keys: &[u64],
+    values: &[u64],
+    walk: u64,
+    budget: u64,
+) -> Numbers
+    ensures { λ r. ⌜ r ≡ stepOf (memory (now (marks .entry)) (now (keys .entry)) (now (values .entry))) walk budget ⌝ }
+{
+    let from = Walk { at: walk as usize };
+    step_numbers(from.step(marks, keys, values, budget))
+}

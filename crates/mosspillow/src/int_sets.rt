@@ -1,0 +1,145 @@
+// The integer set for C: each call as int_set has it, its answer as numbers.
+ghost use mathlib.Core.Path.{_≡_};
+ghost use Rattle.kinds.specs.Told.{told};
+ghost use Rattle.int_set.specs.Memory.{memory};
+ghost use Rattle.int_set.specs.Calls.{makeOf, capacityOf, lenOf, isEmptyOf, reserveOf, getOf, containsOf, insertOf, removeOf, copyOf, stepOf};
+ghost use Rattle.int_set.specs.Numbers.{stepNumbers};
+use crate::walk_numbers;
+use answers::Numbers;
+use answers::added_numbers;
+use answers::contained_numbers;
+use answers::counted_numbers;
+use answers::dropped_numbers;
+use answers::emptiness_numbers;
+use answers::member_numbers;
+use answers::number;
+use answers::outcome_numbers;
+use answers::reserved_numbers;
+use int_set::Paced;
+use int_set::Step;
+use int_set::Walk;
+
+// Makes an empty set of the lent arrays.
+#[no_mangle]
+pub extern "C" fn moss_int_set_make(marks: &mut [u8], keys: &mut [u64]) -> Numbers
+    ensures { λ r. ⌜ told r (memory (now (marks .exit)) (now (keys .exit))) ≡ makeOf (memory (now (marks .entry)) (now (keys .entry))) ⌝ }
+{
+    outcome_numbers(int_set::make(marks, keys))
+}
+
+// Empties a set.
+#[no_mangle]
+pub extern "C" fn moss_int_set_clear(marks: &mut [u8], keys: &mut [u64]) -> Numbers
+    ensures { λ r. ⌜ told r (memory (now (marks .exit)) (now (keys .exit))) ≡ makeOf (memory (now (marks .entry)) (now (keys .entry))) ⌝ }
+{
+    outcome_numbers(int_set::clear(marks, keys))
+}
+
+// The number of slots.
+#[no_mangle]
+pub extern "C" fn moss_int_set_capacity(marks: &[u8], keys: &[u64]) -> Numbers
+    ensures { λ r. ⌜ r ≡ capacityOf (memory (now (marks .entry)) (now (keys .entry))) ⌝ }
+{
+    counted_numbers(int_set::capacity(marks, keys))
+}
+
+// The number of keys.
+#[no_mangle]
+pub extern "C" fn moss_int_set_len(marks: &[u8], keys: &[u64]) -> Numbers
+    ensures { λ r. ⌜ r ≡ lenOf (memory (now (marks .entry)) (now (keys .entry))) ⌝ }
+{
+    counted_numbers(int_set::len(marks, keys))
+}
+
+// Whether there is no key.
+#[no_mangle]
+pub extern "C" fn moss_int_set_is_empty(marks: &[u8], keys: &[u64]) -> Numbers
+    ensures { λ r. ⌜ r ≡ isEmptyOf (memory (now (marks .entry)) (now (keys .entry))) ⌝ }
+{
+    emptiness_numbers(int_set::is_empty(marks, keys))
+}
+
+// Whether so many slots are not live.
+#[no_mangle]
+pub extern "C" fn moss_int_set_reserve(marks: &[u8], keys: &[u64], asked: u64) -> Numbers
+    ensures { λ r. ⌜ r ≡ reserveOf (memory (now (marks .entry)) (now (keys .entry))) asked ⌝ }
+{
+    reserved_numbers(int_set::reserve(marks, keys, asked))
+}
+
+// The key, where it is there.
+#[no_mangle]
+pub extern "C" fn moss_int_set_get(marks: &[u8], keys: &[u64], key: u64) -> Numbers
+    ensures { λ r. ⌜ r ≡ getOf (memory (now (marks .entry)) (now (keys .entry))) key ⌝ }
+{
+    member_numbers(int_set::get(marks, keys, key))
+}
+
+// Whether a key is there.
+#[no_mangle]
+pub extern "C" fn moss_int_set_contains(marks: &[u8], keys: &[u64], key: u64) -> Numbers
+    ensures { λ r. ⌜ r ≡ containsOf (memory (now (marks .entry)) (now (keys .entry))) key ⌝ }
+{
+    contained_numbers(int_set::contains(marks, keys, key))
+}
+
+// Puts a key in.
+#[no_mangle]
+pub extern "C" fn moss_int_set_insert(marks: &mut [u8], keys: &mut [u64], key: u64) -> Numbers
+    ensures { λ r. ⌜ told r (memory (now (marks .exit)) (now (keys .exit))) ≡ insertOf (memory (now (marks .entry)) (now (keys .entry))) key ⌝ }
+{
+    added_numbers(int_set::insert(marks, keys, key))
+}
+
+// Takes a key out.
+#[no_mangle]
+pub extern "C" fn moss_int_set_remove(marks: &mut [u8], keys: &mut [u64], key: u64) -> Numbers
+    ensures { λ r. ⌜ told r (memory (now (marks .exit)) (now (keys .exit))) ≡ removeOf (memory (now (marks .entry)) (now (keys .entry))) key ⌝ }
+{
+    dropped_numbers(int_set::remove(marks, keys, key))
+}
+
+// Makes a set equal to another of equal sizes.
+#[no_mangle]
+pub extern "C" fn moss_int_set_copy(
+    to_marks: &mut [u8],
+    to_keys: &mut [u64],
+    marks: &[u8],
+    keys: &[u64],
+) -> Numbers
+    ensures { λ r. ⌜ told r (memory (now («to_marks» .exit)) (now («to_keys» .exit))) ≡ copyOf (memory (now («to_marks» .entry)) (now («to_keys» .entry))) (memory (now (marks .entry)) (now (keys .entry))) ⌝ }
+{
+    outcome_numbers(int_set::copy(to_marks, to_keys, marks, keys))
+}
+
+// The numbers of a step of a walk.
+fn step_numbers(s: Step) -> Numbers
+    ensures { λ n. ⌜ n ≡ stepNumbers s ⌝ }
+{
+    let at = s.walk.at;
+    let examined = s.examined;
+    let out = s.out;
+    match out {
+        Paced::Member(key) => walk_numbers(0, 14, key, 0, examined, at),
+        Paced::Nothing => walk_numbers(0, 15, 0, 0, examined, at),
+        Paced::Done => walk_numbers(0, 16, 0, 0, examined, at),
+        Paced::Refused(r) => walk_numbers(number(r), 0, 0, 0, examined, at),
+    }
+}
+
+// Where a walk starts.
+#[no_mangle]
+pub extern "C" fn moss_int_set_walk_start() -> u64
+    ensures { λ r. ⌜ r ≡ 0 ⌝ }
+{
+    Walk::start().at as u64
+}
+
+// One step of a walk with a budget of slots.
+#[no_mangle]
+pub extern "C" fn moss_int_set_step(marks: &[u8], keys: &[u64], walk: u64, budget: u64) -> Numbers
+    ensures { λ r. ⌜ r ≡ stepOf (memory (now (marks .entry)) (now (keys .entry))) walk budget ⌝ }
+{
+    let from = Walk { at: walk as usize };
+    step_numbers(from.step(marks, keys, budget))
+}
