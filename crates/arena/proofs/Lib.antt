@@ -1,0 +1,2 @@
+-- The laws of the changes of a byte table.
+pub mod Lent
