@@ -1,2 +1,3 @@
 -- The laws of the changes of a byte table.
+pub mod Falling
 pub mod Lent

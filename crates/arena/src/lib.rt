@@ -2,7 +2,7 @@
 ghost use mathlib.Core.Path.{_≡_};
 ghost use Prim.Native.Nat.{_+_, _≤_};
 ghost use lib.ListN.{length};
-ghost use Rattle.spans.specs.Memory.{part, pasted, closed};
+ghost use Rattle.spans.specs.Memory.{part, pasted, closed, fall, fallen};
 use arrays::clear_bytes;
 use arrays::copy_bytes;
 
@@ -36,4 +36,32 @@ fn close_gap(arena: &mut [u8], offset: usize, len: usize, used: usize)
     shift_down(arena, offset, end, used - end);
     let vacated = used - len;
     clear_bytes(&mut arena[vacated..used]);
+}
+
+// The offset of a slot with this mark, after the spans from an end on fell.
+fn lowered(mark: u8, offset: u16, end: usize, len: usize) -> u16
+    requires { ⌜ len ≤ end ⌝ }
+    ensures { λ r. ⌜ r ≡ fall end len mark offset ⌝ }
+{
+    if mark == 1 {
+        let at = offset as usize;
+        if end <= at {
+            return (at - len) as u16;
+        }
+        return offset;
+    }
+    offset
+}
+
+// Each live offset from an end on falls.
+fn fall_offsets(marks: &[u8], offsets: &mut [u16], end: usize, len: usize)
+    requires { ⌜ (length (now offsets) ≡ length (now marks)) × (len ≤ end) ⌝ }
+    ensures { λ r. ⌜ now (offsets .exit) ≡ fallen end len (now (marks .entry)) (now (offsets .entry)) ⌝ }
+{
+    let n = marks.len();
+    let mut i = 0;
+    while i < n {
+        offsets[i] = lowered(marks[i], offsets[i], end, len);
+        i += 1;
+    }
 }
