@@ -2,9 +2,14 @@
 ghost use mathlib.Core.Path.{_≡_};
 ghost use Prim.Native.Nat.{_+_, _≤_};
 ghost use lib.ListN.{length};
-ghost use Rattle.spans.specs.Memory.{part, pasted, closed, fall, fallen};
+ghost use Rattle.spans.specs.Memory.{part, pasted, closed, fall, fallen, filled, emptied, wiped, spansOf};
+ghost use Rattle.arena.specs.Ready.{Fillable, Freeable};
 use arrays::clear_bytes;
+use arrays::clear_shorts;
 use arrays::copy_bytes;
+use spans::len_at;
+use spans::offset_at;
+use spans::put_len;
 
 // The key's bytes go into the arena from a place on.
 fn paste(arena: &mut [u8], at: usize, key: &[u8])
@@ -64,4 +69,15 @@ fn fall_offsets(marks: &[u8], offsets: &mut [u16], end: usize, len: usize)
         offsets[i] = lowered(marks[i], offsets[i], end, len);
         i += 1;
     }
+}
+
+// A key goes to a slot: its bytes behind the used ones.
+pub fn fill(marks: &mut [u8], offsets: &mut [u16], lengths: &mut [u8], arena: &mut [u8], slot: usize, used: usize, key: &[u8])
+    requires { ⌜ Fillable (spansOf (now marks) (now offsets) (now lengths) (now arena)) slot used (now key) ⌝ }
+    ensures { λ r. ⌜ spansOf (now (marks .exit)) (now (offsets .exit)) (now (lengths .exit)) (now (arena .exit)) ≡ filled (spansOf (now (marks .entry)) (now (offsets .entry)) (now (lengths .entry)) (now (arena .entry))) slot (now (key .entry)) ⌝ }
+{
+    paste(arena, used, key);
+    marks[slot] = 1;
+    offsets[slot] = used as u16;
+    put_len(lengths, slot, key.len());
 }
