@@ -5,13 +5,12 @@ use mathlib.Core.Path.{_≡_, refl, sym, _∙_, ap}
 use native.Mathlib.Numerals.{add-one}
 use native.Mathlib.Omega.{arith}
 use borrow.Author.Tests.{eq-eqb}
-use lib.ListN.{length, getD, take, drop, set, replicate, length-take, length-drop, length-set, length-append}
-use lib.Seq.{drop-drop, paste, paste-zero, paste-suc, length-paste-head, getD-drop, drop-at, take-at, length-take-le, ext-getD, getD-set-same, getD-set-other}
-use Rattle.model.proofs.Cases.{by-lt, by-eq}
+use lib.ListN.{length, getD, take, drop, set, replicate, length-drop, length-set, length-append}
+use lib.Seq.{drop-drop, paste, paste-zero, paste-suc, length-paste-head, getD-drop, drop-at, take-at, length-take-le}
 use Rattle.lists.proofs.Parts.{getD-behind, length-part}
 use Rattle.arrays.specs.Whole.{copied}
 use Rattle.spans.specs.Memory.{part, pasted, closed}
-use Rattle.spans.proofs.Arena.{length-pasted, pasted-before, pasted-key, pasted-after}
+use Rattle.spans.proofs.Arena.{length-pasted}
 
 -- The bytes from u on, copied over with as many of a key, are the arena with the key pasted.
 pub pasted-end : (a : List ℕ) (u : ℕ) (k l : List ℕ) → u + length k ≤ length a → l ≡ copied (take (u + length k - u) (drop u a)) k → take u a ++ (l ++ drop (u + length k - u) (drop u a)) ≡ pasted a u k

@@ -72,7 +72,15 @@ fn fall_offsets(marks: &[u8], offsets: &mut [u16], end: usize, len: usize)
 }
 
 // A key goes to a slot: its bytes behind the used ones.
-pub fn fill(marks: &mut [u8], offsets: &mut [u16], lengths: &mut [u8], arena: &mut [u8], slot: usize, used: usize, key: &[u8])
+pub fn fill(
+    marks: &mut [u8],
+    offsets: &mut [u16],
+    lengths: &mut [u8],
+    arena: &mut [u8],
+    slot: usize,
+    used: usize,
+    key: &[u8],
+)
     requires { ⌜ Fillable (spansOf (now marks) (now offsets) (now lengths) (now arena)) slot used (now key) ⌝ }
     ensures { λ r. ⌜ spansOf (now (marks .exit)) (now (offsets .exit)) (now (lengths .exit)) (now (arena .exit)) ≡ filled (spansOf (now (marks .entry)) (now (offsets .entry)) (now (lengths .entry)) (now (arena .entry))) slot (now (key .entry)) ⌝ }
 {
@@ -80,4 +88,35 @@ pub fn fill(marks: &mut [u8], offsets: &mut [u16], lengths: &mut [u8], arena: &m
     marks[slot] = 1;
     offsets[slot] = used as u16;
     put_len(lengths, slot, key.len());
+}
+
+// A slot is freed: the gap of its span is closed, and the offsets behind it fall.
+pub fn free(
+    marks: &mut [u8],
+    offsets: &mut [u16],
+    lengths: &mut [u8],
+    arena: &mut [u8],
+    slot: usize,
+    used: usize,
+)
+    requires { ⌜ Freeable (spansOf (now marks) (now offsets) (now lengths) (now arena)) slot used ⌝ }
+    ensures { λ r. ⌜ spansOf (now (marks .exit)) (now (offsets .exit)) (now (lengths .exit)) (now (arena .exit)) ≡ emptied (spansOf (now (marks .entry)) (now (offsets .entry)) (now (lengths .entry)) (now (arena .entry))) slot ⌝ }
+{
+    let offset = offset_at(offsets, slot) as usize;
+    let len = len_at(lengths, slot) as usize;
+    close_gap(arena, offset, len, used);
+    fall_offsets(marks, offsets, offset + len, len);
+    marks[slot] = 2;
+    offsets[slot] = 0;
+    put_len(lengths, slot, 0);
+}
+
+// All marks, offsets, lengths and arena bytes are to be 0.
+pub fn wipe(marks: &mut [u8], offsets: &mut [u16], lengths: &mut [u8], arena: &mut [u8])
+    ensures { λ r. ⌜ spansOf (now (marks .exit)) (now (offsets .exit)) (now (lengths .exit)) (now (arena .exit)) ≡ wiped (spansOf (now (marks .entry)) (now (offsets .entry)) (now (lengths .entry)) (now (arena .entry))) ⌝ }
+{
+    clear_bytes(marks);
+    clear_shorts(offsets);
+    clear_bytes(lengths);
+    clear_bytes(arena);
 }

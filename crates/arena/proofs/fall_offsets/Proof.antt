@@ -1,7 +1,7 @@
 -- `arena::fall_offsets` meets its contract. The invariant: the offsets of the first i slots fell, and the others wait. Assumes nothing.
 use Prim.Native.Nat.{_-_}
-use Rattle.arena.proofs.Falling.{Falling, falling-none, falling-more, falling-all}
 use borrow.Author.Needs.{needs}
+use Rattle.arena.proofs.Falling.{Falling, falling-none, falling-more, falling-all}
 use Rattle.arena.proofs.fall_offsets.Statement.{statement}
 use Rattle.arena.proofs.fall_offsets.Tie as tie
 

@@ -1,6 +1,6 @@
 -- `arena::fill` meets its contract: each list has what it is to have. Assumes nothing.
-use Rattle.arena.proofs.Lists.{filled-lists}
 use borrow.Author.Needs.{needs}
+use Rattle.arena.proofs.Lists.{filled-lists}
 use Rattle.arena.proofs.fill.Statement.{statement}
 use Rattle.arena.proofs.fill.Tie as tie
 

@@ -1,6 +1,6 @@
 -- `arena::lowered` meets its contract: a live offset from the end on falls, any other stays. Assumes nothing.
-use Rattle.arena.proofs.Falling.{fall-live, fall-low, fall-dead}
 use borrow.Author.Needs.{needs}
+use Rattle.arena.proofs.Falling.{fall-live, fall-low, fall-dead}
 use Rattle.arena.proofs.lowered.Statement.{statement}
 use Rattle.arena.proofs.lowered.Tie as tie
 

@@ -1,6 +1,5 @@
 -- `arena::shift_down` meets its contract. The invariant: the first i bytes moved down. Assumes nothing.
 use Prim.Native.Nat.{_-_}
-use native.Mathlib.Omega.{arith}
 use borrow.Author.Needs.{needs}
 use Rattle.arena.proofs.Lent.{Moving, moving-none, moving-more, moving-all}
 use Rattle.arena.proofs.shift_down.Statement.{statement}
