@@ -145,6 +145,7 @@ pub enum Spanned {
     Found(usize, usize, usize, usize),
     Absent(usize),
     Refused(Refusal),
+}
 
 // The numbers of a refusal: its own, and zeros elsewhere.
 pub fn refusal_numbers(r: Refusal) -> Numbers

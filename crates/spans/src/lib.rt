@@ -1,8 +1,8 @@
 // Byte tables without their values: sizes, the words of a slot, the probing loop, the scan, the survey, and the plans of insert and remove.
 ghost use mathlib.Core.Path.{_≡_};
-ghost use Prim.Native.Nat.{_+_, _≤_};
+ghost use Prim.Native.Nat.{_+_, _≤_, _<_};
 ghost use lib.Dec.{eqb};
-ghost use lib.ListN.{length, getD};
+ghost use lib.ListN.{length, getD, set};
 ghost use Rattle.spans.specs.Keys.{sameBytes};
 ghost use Rattle.spans.specs.Memory.{spansOf, endAt, fitting, askedOf, keptOf};
 ghost use Rattle.spans.specs.Marks.{markAt};
@@ -104,4 +104,12 @@ pub fn same_bytes(a: &[u8], b: &[u8]) -> bool
         return true;
     }
     false
+}
+
+// The length of slot i is to be n.
+pub fn put_len(lengths: &mut [u8], i: usize, n: usize)
+    requires { ⌜ (i < length (now lengths)) × (n ≤ 255) ⌝ }
+    ensures { λ r. ⌜ now (lengths .exit) ≡ set (now (lengths .entry)) i n ⌝ }
+{
+    lengths[i] = n as u8;
 }

@@ -1,0 +1,4 @@
+-- The laws of the changes of a byte table.
+pub mod Falling
+pub mod Lent
+pub mod Lists

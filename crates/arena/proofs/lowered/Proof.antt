@@ -1,0 +1,23 @@
+-- `arena::lowered` meets its contract: a live offset from the end on falls, any other stays. Assumes nothing.
+use borrow.Author.Needs.{needs}
+use Rattle.arena.proofs.Falling.{fall-live, fall-low, fall-dead}
+use Rattle.arena.proofs.lowered.Statement.{statement}
+use Rattle.arena.proofs.lowered.Tie as tie
+
+sub-result : tie.Need-sub-result
+sub-result c = search needs
+
+cast-result : tie.Need-cast-result
+cast-result c = search needs
+
+returns : tie.Need-returns
+returns c = fall-live _ _ _ _ (c .before .if1 .taken) (c .if2 .taken)
+
+returns-2 : tie.Need-returns-2
+returns-2 c = fall-low _ _ _ _ (c .before .if1 .taken) (c .if2 .left)
+
+returns-3 : tie.Need-returns-3
+returns-3 c = fall-dead _ _ _ _ (c .if1 .left)
+
+pub lowered-spec : {M : Type 1} → statement M
+lowered-spec = tie.close (tie.spec sub-result cast-result returns returns-2 returns-3)

@@ -1,0 +1,28 @@
+-- What a slot has to be, for a key to be put into it and for it to be freed.
+use Prim.Native.Nat.{ℕ, _+_, _≤_, _<_}
+use mathlib.Core.List.{List}
+use mathlib.Core.Path.{_≡_}
+use lib.ListN.{length}
+use Rattle.digest.specs.Home.{keyLimit}
+use Rattle.spans.specs.Memory.{Spans, arenaLimit, endAt, usedOf}
+
+-- One of the slots, in lists that agree.
+pub record Inside (s : Spans) (i : ℕ) : Type 0 where
+  pub slot : i < length (s .marks)
+  pub offsets : length (s .offsets) ≡ length (s .marks)
+  pub lengths : length (s .lengths) ≡ length (s .marks)
+
+-- The key has room behind the u used bytes.
+pub record Fillable (s : Spans) (i u : ℕ) (k : List ℕ) : Type 0 where
+  pub inside : Inside s i
+  pub used : u ≡ usedOf s
+  pub room : u + length k ≤ length (s .arena)
+  pub short : length k ≤ keyLimit
+  pub arena : length (s .arena) ≤ arenaLimit
+
+-- The slot's span ends among the u used bytes, and these are bytes of the arena.
+pub record Freeable (s : Spans) (i u : ℕ) : Type 0 where
+  pub inside : Inside s i
+  pub used : u ≡ usedOf s
+  pub below : endAt s i ≤ u
+  pub within : u ≤ length (s .arena)
