@@ -5,7 +5,7 @@ use mathlib.Core.List.{List}
 use mathlib.Core.Logic.{_↔_}
 use mathlib.Core.Path.{_≡_, refl, sym, _∙_, ap}
 use native.Mathlib.Omega.{arith}
-use borrow.Author.Tests.{ltb-true, eqb-true, le-ltb}
+use borrow.Author.Tests.{ltb-true, eqb-true}
 use lib.Dec.{eqb, ltb, leb}
 use lib.ListN.{length}
 use Rattle.model.specs.Slots.{freed, live, Table, put, made}
@@ -20,7 +20,7 @@ use Rattle.kinds.specs.Columns.{Column}
 use Rattle.kinds.proofs.Columns.{Orderly}
 use Rattle.spans.specs.Memory.{Spans, arenaLimit, endAt, slotsOf, usedOf, harmful, fitting, Strings, strings}
 use Rattle.spans.specs.Sound.{liveAt, Laid}
-use Rattle.spans.proofs.Held.{live-says, says-live, free-says, bare-total, bare-damaged, beyond-not}
+use Rattle.spans.proofs.Held.{live-says, says-live, free-says, bare-total, bare-damaged, says-unharmed}
 use Rattle.spans.proofs.Writes.{SameSizes, changed, fill-sizes, fill-slots, fill-laid, free-sizes, free-slots, free-laid, wipe-sizes, wipe-slots, wipe-laid}
 
 -- What fitting sizes say of the four lists.
@@ -69,11 +69,10 @@ module _ {W : Type 0} (C : Column W) (O : Orderly C) where
 
   -- sound memory is not harmful
   unharmed : (m : Strings C) → Good m → Sound (strings C .size m) (strings C .home m) (strings C .slots m) → harmful (m .spans) ≡ false
-  unfolding harmful endAt
+  unfolding endAt
   unharmed m g s =
       let n : ℕ = length (m .spans .marks) in
-      rw (sym (bare-damaged (m .spans) (C .read (m .words)) n) ∙ damaged-not (strings C .slots m) n (s .whole), le-ltb (length (m .spans .arena)) (usedOf (m .spans)) (g .within))
-      (beyond-not (m .spans) (usedOf (m .spans)) n (λ i l a. g .tiled .ends i a))
+      says-unharmed (m .spans) (sym (bare-damaged (m .spans) (C .read (m .words)) n) ∙ damaged-not (strings C .slots m) n (s .whole)) (g .within) (g .tiled .ends)
 
   -- the slot whose value was written
   over-here : (m : Strings C) (i : ℕ) (k : List ℕ) (v w : W) → strings C .slots m i ≡ live k w → (words : C .Words) → C .read words i ≡ v → slotsOf (m .spans) (C .read words) i ≡ live k v
