@@ -18,7 +18,7 @@ use Rattle.digest.specs.Home.{homeOf, slotsFit}
 use Rattle.digest.proofs.Bounds.{home-below}
 use Rattle.kinds.specs.Columns.{Column}
 use Rattle.kinds.proofs.Columns.{Orderly}
-use Rattle.spans.specs.Memory.{Spans, arenaLimit, endAt, slotsOf, usedOf, harmful, fitting, Strings, strings}
+use Rattle.spans.specs.Memory.{Spans, arenaLimit, endAt, usedOf, harmful, fitting, Strings, strings}
 use Rattle.spans.specs.Sound.{liveAt, Laid}
 use Rattle.spans.proofs.Held.{live-says, says-live, free-says, bare-total, bare-damaged, says-unharmed}
 use Rattle.spans.proofs.Writes.{SameSizes, changed, fill-sizes, fill-slots, fill-laid, free-sizes, free-slots, free-laid, wipe-sizes, wipe-slots, wipe-laid}

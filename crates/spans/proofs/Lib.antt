@@ -3,5 +3,6 @@ pub mod Arena
 pub mod Held
 pub mod Lawful
 pub mod Paper
+pub mod Places
 pub mod Tiled
 pub mod Writes

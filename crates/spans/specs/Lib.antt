@@ -1,4 +1,5 @@
 -- The definitions of byte tables.
 pub mod Keys
 pub mod Memory
+pub mod Places
 pub mod Sound
