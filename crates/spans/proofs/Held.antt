@@ -125,11 +125,18 @@ module _ (s : Spans) where
       (λ t. by-lt i n (λ b x. beyond-none u n (rw t at e) i b a)
       (λ b x. let q : i ≡ n = omega arith in subst (λ j. endAt s j ≤ u) (sym q) (ltb-false u (endAt s n) (rw (eq-eqb (getD (s .marks) n 0) 1 (rw q at a)) at t))))
 
-  -- What a table that is not harmful says: `used` is at most the arena, and no live span ends beyond `used`.
+  -- What a table that is not harmful says: no slot is damaged, `used` is at most the arena, and no live span ends beyond `used`.
+  pub unharmed-whole : harmful s ≡ false → damaged (bare s) (length (s .marks)) ≡ false
+  unfolding harmful
+  unharmed-whole e = by-bool (damaged (bare s) (length (s .marks))) (λ t. clash (let z : true ≡ false = rw t at e in cc)) (λ t. t)
+
   pub unharmed-says : harmful s ≡ false → (usedOf s ≤ length (s .arena)) × ((i : ℕ) → liveAt s i → endAt s i ≤ usedOf s)
   unfolding harmful
-  unharmed-says e = by-bool (damaged (bare s) (length (s .marks)))
-      (λ t. clash (let z : true ≡ false = rw t at e in cc))
-      (λ t. by-lt (length (s .arena)) (usedOf s)
-      (λ l x. clash (let z : true ≡ false = rw (t, x) at e in cc))
-      (λ l x. (l, λ i a. beyond-none (usedOf s) (length (s .marks)) (rw (t, x) at e) i (live-below (s .marks) i a) a)))
+  unharmed-says e = by-lt (length (s .arena)) (usedOf s)
+      (λ l x. clash (let z : true ≡ false = rw (unharmed-whole e, x) at e in cc))
+      (λ l x. (l, λ i a. beyond-none (usedOf s) (length (s .marks)) (rw (unharmed-whole e, x) at e) i (live-below (s .marks) i a) a))
+
+  -- And the three say that it is not harmful.
+  pub says-unharmed : damaged (bare s) (length (s .marks)) ≡ false → usedOf s ≤ length (s .arena) → ((i : ℕ) → liveAt s i → endAt s i ≤ usedOf s) → harmful s ≡ false
+  unfolding harmful
+  says-unharmed e u ends = rw (e, le-ltb (length (s .arena)) (usedOf s) u) (beyond-not (usedOf s) (length (s .marks)) (λ i l. ends i))

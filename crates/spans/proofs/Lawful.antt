@@ -5,7 +5,7 @@ use mathlib.Core.List.{List}
 use mathlib.Core.Logic.{_↔_}
 use mathlib.Core.Path.{_≡_, refl, sym, _∙_, ap}
 use native.Mathlib.Omega.{arith}
-use borrow.Author.Tests.{ltb-true, eqb-true, le-ltb}
+use borrow.Author.Tests.{ltb-true, eqb-true}
 use lib.Dec.{eqb, ltb, leb}
 use lib.ListN.{length}
 use Rattle.model.specs.Slots.{freed, live, Table, put, made}
@@ -18,9 +18,9 @@ use Rattle.digest.specs.Home.{homeOf, slotsFit}
 use Rattle.digest.proofs.Bounds.{home-below}
 use Rattle.kinds.specs.Columns.{Column}
 use Rattle.kinds.proofs.Columns.{Orderly}
-use Rattle.spans.specs.Memory.{Spans, arenaLimit, endAt, slotsOf, usedOf, harmful, fitting, Strings, strings}
+use Rattle.spans.specs.Memory.{Spans, arenaLimit, endAt, usedOf, harmful, fitting, Strings, strings}
 use Rattle.spans.specs.Sound.{liveAt, Laid}
-use Rattle.spans.proofs.Held.{live-says, says-live, free-says, bare-total, bare-damaged, beyond-not}
+use Rattle.spans.proofs.Held.{live-says, says-live, free-says, bare-total, bare-damaged, says-unharmed}
 use Rattle.spans.proofs.Writes.{SameSizes, changed, fill-sizes, fill-slots, fill-laid, free-sizes, free-slots, free-laid, wipe-sizes, wipe-slots, wipe-laid}
 
 -- What fitting sizes say of the four lists.
@@ -53,33 +53,51 @@ module _ {W : Type 0} (C : Column W) where
   used-is m = bare-total (m .spans) (C .read (m .words)) (length (m .spans .marks))
 
 module _ {W : Type 0} (C : Column W) (O : Orderly C) where
+  module _ (Good : Strings C → Type 0) where
+    -- a write that keeps the sizes and leaves good memory
+    wrote : (m n : Strings C) (t : Table (List ℕ) W) → SameSizes (m .spans) (n .spans) → ((k : ℕ) → C .long (n .words) k ≡ C .long (m .words) k) → strings C .slots n ≡ t → Good n → Wrote (strings C) Good m n t
+    wrote m n t z long e g = record {
+      slots = e;
+      size = z .marks;
+      home = ap (λ n k. homeOf 0 n k) (z .marks);
+      bytes = z .arena;
+      sized = rw (fitting-same (m .spans) (n .spans) z, z .marks, long (length (m .spans .marks)));
+      good = g;
+    }
+
+    -- A value written over a live slot's changes that slot, whatever the spans.
+    pub over-wrote : (m : Strings C) (i : ℕ) (k : List ℕ) (v w : W) → strings C .sized m ≡ true → i < length (m .spans .marks) → strings C .slots m i ≡ live k w → Good (strings C .over m i v) → Wrote (strings C) Good m (strings C .over m i v) (put (strings C .slots m) i (live k v))
+    over-wrote m i k v w e l q g =
+        let (a, b, c) = live-says (m .spans) (C .read (m .words)) i k w q in
+        wrote m (strings C .over m i v) (put (strings C .slots m) i (live k v))
+        (record { marks = refl; offsets = refl; lengths = refl; arena = refl })
+        (λ n. O .long-write (m .words) n i v)
+        (changed (m .spans) (m .spans) (C .read (m .words)) (C .read (C .write (m .words) i v)) i (live k v)
+        (says-live (m .spans) (C .read (C .write (m .words) i v)) i a b ∙ rw (c, O .read-same (m .words) (length (m .spans .marks)) i v (sizes-say C m e .3) l))
+        (λ j d. record { mark = refl; span = λ a. (refl, refl) })
+        (λ j d. O .read-other (m .words) i j v d))
+        g
+
+    -- A key put into a slot changes that slot, where no live span ends beyond `used`.
+    pub fill-wrote : (m : Strings C) (i : ℕ) (k : List ℕ) (v : W) → strings C .sized m ≡ true → i < length (m .spans .marks) → usedOf (m .spans) + length k ≤ length (m .spans .arena) → ((j : ℕ) → liveAt (m .spans) j → endAt (m .spans) j ≤ usedOf (m .spans)) → Good (strings C .fill m i k v) → Wrote (strings C) Good m (strings C .fill m i k v) (put (strings C .slots m) i (live k v))
+    fill-wrote m i k v e l room ends g =
+        let (a, b, c, d) = sizes-say C m e in
+        wrote m (strings C .fill m i k v) (put (strings C .slots m) i (live k v))
+        (fill-sizes (m .spans) i k room)
+        (λ n. O .long-write (m .words) n i v)
+        (fill-slots (m .spans) i k room l (omega arith) (omega arith) ends (C .read (m .words)) (C .read (C .write (m .words) i v)) v
+        (O .read-same (m .words) (length (m .spans .marks)) i v d l) (λ j h. O .read-other (m .words) i j v h))
+        g
+
   abbrev Good : Strings C → Type 0
   Good m = Laid (m .spans)
 
-  -- a write that keeps the sizes and the spans sound
-  wrote : (m n : Strings C) (t : Table (List ℕ) W) → SameSizes (m .spans) (n .spans) → ((k : ℕ) → C .long (n .words) k ≡ C .long (m .words) k) → strings C .slots n ≡ t → Good n → Wrote (strings C) Good m n t
-  wrote m n t z long e g = record {
-    slots = e;
-    size = z .marks;
-    home = ap (λ n k. homeOf 0 n k) (z .marks);
-    bytes = z .arena;
-    sized = rw (fitting-same (m .spans) (n .spans) z, z .marks, long (length (m .spans .marks)));
-    good = g;
-  }
-
   -- sound memory is not harmful
   unharmed : (m : Strings C) → Good m → Sound (strings C .size m) (strings C .home m) (strings C .slots m) → harmful (m .spans) ≡ false
-  unfolding harmful endAt
+  unfolding endAt
   unharmed m g s =
       let n : ℕ = length (m .spans .marks) in
-      rw (sym (bare-damaged (m .spans) (C .read (m .words)) n) ∙ damaged-not (strings C .slots m) n (s .whole), le-ltb (length (m .spans .arena)) (usedOf (m .spans)) (g .within))
-      (beyond-not (m .spans) (usedOf (m .spans)) n (λ i l a. g .tiled .ends i a))
-
-  -- the slot whose value was written
-  over-here : (m : Strings C) (i : ℕ) (k : List ℕ) (v w : W) → strings C .slots m i ≡ live k w → (words : C .Words) → C .read words i ≡ v → slotsOf (m .spans) (C .read words) i ≡ live k v
-  over-here m i k v w q words e =
-      let (a, b, c) = live-says (m .spans) (C .read (m .words)) i k w q in
-      says-live (m .spans) (C .read words) i a b ∙ rw (c, e)
+      says-unharmed (m .spans) (sym (bare-damaged (m .spans) (C .read (m .words)) n) ∙ damaged-not (strings C .slots m) n (s .whole)) (g .within) (g .tiled .ends)
 
   -- A byte table pays what a store owes.
   pub strings-lawful : Lawful (strings C)
@@ -89,33 +107,21 @@ module _ {W : Type 0} (C : Column W) (O : Orderly C) where
     homes = λ m k e. home-below 0 (length (m .spans .marks)) k (sizes-say C m e .0);
     unharmed = λ m e g s. unharmed m g s;
     within = λ m e g. omega (arith, used-is C m, g .within);
-    over-wrote = λ m i k v w e g l q.
-        wrote m (strings C .over m i v) (put (strings C .slots m) i (live k v))
-        (record { marks = refl; offsets = refl; lengths = refl; arena = refl })
-        (λ n. O .long-write (m .words) n i v)
-        (changed (m .spans) (m .spans) (C .read (m .words)) (C .read (C .write (m .words) i v)) i (live k v)
-        (over-here m i k v w q (C .write (m .words) i v) (O .read-same (m .words) (length (m .spans .marks)) i v (sizes-say C m e .3) l))
-        (λ j d. record { mark = refl; span = λ a. (refl, refl) })
-        (λ j d. O .read-other (m .words) i j v d))
-        g;
+    over-wrote = λ m i k v w e g l q. over-wrote Good m i k v w e l q g;
     fill-wrote = λ m i k v e g l q u.
         let (a, b, c, d) = sizes-say C m e in
         let room : usedOf (m .spans) + length k ≤ length (m .spans .arena) = omega (arith, used-is C m) in
-        wrote m (strings C .fill m i k v) (put (strings C .slots m) i (live k v))
-        (fill-sizes (m .spans) i k room)
-        (λ n. O .long-write (m .words) n i v)
-        (fill-slots (m .spans) i k room l (omega arith) (omega arith) (g .tiled .ends) (C .read (m .words)) (C .read (C .write (m .words) i v)) v
-        (O .read-same (m .words) (length (m .spans .marks)) i v d l) (λ j h. O .read-other (m .words) i j v h))
+        fill-wrote Good m i k v e l room (g .tiled .ends)
         (fill-laid (m .spans) i k room l (omega arith) (omega arith) (g .tiled .ends) g (free-says (m .spans) (C .read (m .words)) i q));
     free-wrote = λ m i k w e g l q.
         let a : liveAt (m .spans) i = live-says (m .spans) (C .read (m .words)) i k w q .0 in
-        wrote m (strings C .free m i) (put (strings C .slots m) i freed)
+        wrote Good m (strings C .free m i) (put (strings C .slots m) i freed)
         (free-sizes (m .spans) i g a)
         (λ n. O .long-blank (m .words) n i)
         (free-slots (m .spans) i g a (C .read (m .words)) (C .read (C .blank (m .words) i)) (λ j h. O .blank-other (m .words) i j h))
         (free-laid (m .spans) i g a);
     wipe-wrote = λ m e.
-        wrote m (strings C .wipe m) made (wipe-sizes (m .spans)) (λ n. O .long-wipe (m .words) n) (wipe-slots (m .spans) (C .read (C .wipe (m .words)))) (wipe-laid (m .spans));
+        wrote Good m (strings C .wipe m) made (wipe-sizes (m .spans)) (λ n. O .long-wipe (m .words) n) (wipe-slots (m .spans) (C .read (C .wipe (m .words)))) (wipe-laid (m .spans));
   }
 
   -- What this store keeps good: its spans are sound.

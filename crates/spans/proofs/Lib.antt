@@ -3,6 +3,7 @@ pub mod Arena
 pub mod Held
 pub mod Lawful
 pub mod Paper
+pub mod Places
 pub mod Tiled
 pub mod Writes
 pub mod Equal

@@ -34,6 +34,11 @@ pub data Extended (live : ℕ → Type 0) (off len off′ len′ : ℕ → ℕ) 
   new : j ≡ i → off′ j ≡ u → len′ j ≡ l → Extended live off len off′ len′ u l i j
   old : live j → off′ j ≡ off j → len′ j ≡ len j → Extended live off len off′ len′ u l i j
 
+-- It ends that much later at the latest.
+pub extended-end : {live : ℕ → Type 0} {off len off′ len′ : ℕ → ℕ} {u l i j : ℕ} → ((n : ℕ) → live n → off n + len n ≤ u) → Extended live off len off′ len′ u l i j → off′ j + len′ j ≤ u + l
+extended-end ends (new q e f) = omega arith
+extended-end {j = j} ends (old a e f) = omega (arith, ends j a)
+
 module _ {live : ℕ → Type 0} {off len : ℕ → ℕ} {u : ℕ} (T : Tiled live off len u) where
   -- Where a gap is closed the rest tile that much less.
   pub close : {live′ : ℕ → Type 0} {off′ len′ : ℕ → ℕ} (o l : ℕ) → o + l ≤ u → ((j : ℕ) → live′ j → Lowered live off len off′ len′ o l j) → Tiled live′ off′ len′ (u - l)
@@ -54,12 +59,8 @@ module _ {live : ℕ → Type 0} {off len : ℕ → ℕ} {u : ℕ} (T : Tiled li
 
   -- With one more span behind them they tile that much more.
   pub extend : {live′ : ℕ → Type 0} {off′ len′ : ℕ → ℕ} (i l : ℕ) → ((j : ℕ) → live′ j → Extended live off len off′ len′ u l i j) → Tiled live′ off′ len′ (u + l)
-  extend {live′} {off′} {len′} i l h = record { ends = λ j a. end j (h j a); apart = λ j k a b d c. lies j k (h j a) (h k b) d c }
+  extend {live′} {off′} {len′} i l h = record { ends = λ j a. extended-end (T .ends) (h j a); apart = λ j k a b d c. lies j k (h j a) (h k b) d c }
     where
-      end : (j : ℕ) → Extended live off len off′ len′ u l i j → off′ j + len′ j ≤ u + l
-      end j (new q e f) = omega arith
-      end j (old a e f) = omega (arith, T .ends j a)
-
       lies : (j k : ℕ) → Extended live off len off′ len′ u l i j → Extended live off len off′ len′ u l i k → (j ≡ k → ⊥) → off′ k < off′ j + len′ j → off′ k + len′ k ≤ off′ j
       lies j k (new q e f) (new r g m) d c = let z : ⊥ = d (omega arith) in absurd z
       lies j k (new q e f) (old b g m) d c = omega (arith, T .ends k b)

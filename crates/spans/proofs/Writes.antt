@@ -1,6 +1,6 @@
 -- What a byte table's slots, spans and `used` are after a key is put into a slot, a slot is freed, and all is wiped.
 use Prim.Native.Nat.{ℕ, zero, suc, _+_, _-_, _≤_, _<_}
-use mathlib.Core.Bool.{false, _&&_}
+use mathlib.Core.Bool.{true, false, _&&_}
 use mathlib.Core.List.{List, [], _∷_}
 use mathlib.Core.Path.{_≡_, refl, sym, _∙_, ap, fun-ext}
 use native.Mathlib.Omega.{arith}
@@ -8,16 +8,16 @@ use borrow.Author.Tests.{le-leb}
 use lib.Dec.{eqb, leb}
 use lib.ListN.{length, getD, length-set, length-replicate}
 use lib.Seq.{getD-set-same, getD-set-other}
-use Rattle.model.specs.Slots.{Slot, freed, live, put, made, weigh}
+use Rattle.model.specs.Slots.{Slot, freed, live, Table, put, made, weigh, damaged}
 use Rattle.model.proofs.Cases.{by-bool, by-eq}
-use Rattle.model.proofs.Slots.{by-put, total-put}
+use Rattle.model.proofs.Slots.{by-put, total-put, damaged-not, damaged-bad}
 use Rattle.model.proofs.Finite.{total-dead}
 use Rattle.lists.proofs.Parts.{getD-zeros}
 use Rattle.spans.specs.Memory.{Spans, part, endAt, keyAt, spanned, slotsOf, bare, usedOf, harmful, closed, fall, fallen, filled, emptied, wiped}
 use Rattle.spans.specs.Sound.{Tiled, liveAt, offsetAt, lengthAt, Laid}
 use Rattle.spans.proofs.Arena.{length-pasted, part-pasted, part-pasted-key, length-closed, part-closed-before, part-closed-behind}
-use Rattle.spans.proofs.Tiled.{Side, before, behind, side, Lowered, new, old, close, extend, weighs}
-use Rattle.spans.proofs.Held.{live-below, spanned-same, slot-counts, unharmed-says}
+use Rattle.spans.proofs.Tiled.{Side, before, behind, side, Lowered, Extended, new, old, extended-end, close, extend, weighs}
+use Rattle.spans.proofs.Held.{live-below, spanned-same, slot-counts, unharmed-whole, unharmed-says, says-unharmed}
 
 -- The lengths of the lent lists stay.
 pub record SameSizes (s t : Spans) : Type 0 where
@@ -42,6 +42,12 @@ changed s t read wrote i c here stays same = fun-ext (λ j. by-put (slotsOf s re
 pub used-changed : (s t : Spans) (i : ℕ) (c : Slot (List ℕ) (Unit {0})) → bare t ≡ put (bare s) i c → length (t .marks) ≡ length (s .marks) → i < length (s .marks) → usedOf t + weigh length (bare s i) ≡ usedOf s + weigh length c
 unfolding usedOf
 used-changed s t i c e n l = rw (e, n) (total-put length (bare s) i c (length (s .marks)) l)
+
+-- A live slot does no damage.
+damaged-put : {K W : Type 0} (t : Table K W) (n i : ℕ) (k : K) (v : W) → damaged t n ≡ false → damaged (put t i (live k v)) n ≡ false
+damaged-put t n i k v e = damaged-not (put t i (live k v)) n (λ j l q. by-put t i (live k v) j
+    (λ p r. let z : _≡_ {A = ℕ} 0 1 = cc in omega arith)
+    (λ p r. let y : true ≡ false = sym (damaged-bad t n j l (sym r ∙ q)) ∙ e in let z : _≡_ {A = ℕ} 0 1 = cc in omega arith))
 
 module _ (s : Spans) (i : ℕ) (k : List ℕ) (room : usedOf s + length k ≤ length (s .arena)) where
   -- A key put into a slot keeps the sizes.
@@ -86,15 +92,22 @@ module _ (s : Spans) (i : ℕ) (k : List ℕ) (room : usedOf s + length k ≤ le
     fill-used dead =
         omega (arith, used-changed s (filled s i k) i (live k tt) (fill-slots (λ j. tt) (λ j. tt) tt refl (λ j d. refl)) (fill-sizes .marks) a, weighs (slot-counts s i (λ e. absurd (dead e))) .1 dead)
 
+    -- a live span is the new one, or stands where it stood
+    fill-span : (j : ℕ) → liveAt (filled s i k) j → Extended (liveAt s) (offsetAt s) (lengthAt s) (offsetAt (filled s i k)) (lengthAt (filled s i k)) (usedOf s) (length k) i j
+    unfolding filled
+    fill-span j e = by-eq j i
+        (λ q x. new q (rw q (getD-set-same (s .offsets) i (usedOf s) 0 b)) (rw q (getD-set-same (s .lengths) i (length k) 0 c)))
+        (λ q x. old (sym (getD-set-other (s .marks) i j 1 0 q) ∙ e) (getD-set-other (s .offsets) i j (usedOf s) 0 q) (getD-set-other (s .lengths) i j (length k) 0 q))
+
+    -- A table that was not harmful is not harmful then.
+    pub fill-unharmed : (liveAt s i → ⊥) → harmful s ≡ false → harmful (filled s i k) ≡ false
+    unfolding endAt
+    fill-unharmed dead e = says-unharmed (filled s i k)
+        (rw (fill-slots (λ j. tt {0}) (λ j. tt {0}) tt refl (λ j d. refl), fill-sizes .marks) (damaged-put (bare s) (length (s .marks)) i k tt (unharmed-whole s e))) (omega (arith, fill-used dead, fill-sizes .arena)) (λ j l. rw (fill-used dead) (extended-end ends (fill-span j l)))
+
     -- Sound spans stay sound.
     pub fill-laid : Laid s → (liveAt s i → ⊥) → Laid (filled s i k)
-    unfolding filled
-    fill-laid L dead = record {
-      tiled = rw (fill-used dead) (extend (L .tiled) i (length k) (λ j e. by-eq j i
-          (λ q x. new q (rw q (getD-set-same (s .offsets) i (usedOf s) 0 b)) (rw q (getD-set-same (s .lengths) i (length k) 0 c)))
-          (λ q x. old (sym (getD-set-other (s .marks) i j 1 0 q) ∙ e) (getD-set-other (s .offsets) i j (usedOf s) 0 q) (getD-set-other (s .lengths) i j (length k) 0 q))));
-      within = omega (arith, fill-used dead, fill-sizes .arena);
-    }
+    fill-laid L dead = record { tiled = rw (fill-used dead) (extend (L .tiled) i (length k) fill-span); within = omega (arith, fill-used dead, fill-sizes .arena) }
 
 -- An accepted insert overwrites no live byte, whatever the memory: every other live slot keeps its key.
 pub fill-keeps-bytes : (s : Spans) (i : ℕ) (k : List ℕ) → harmful s ≡ false → length k ≤ length (s .arena) - usedOf s → (j : ℕ) → (j ≡ i → ⊥) → liveAt s j → keyAt (filled s i k) j ≡ keyAt s j

@@ -2,5 +2,6 @@
 pub mod Keys
 pub mod Marks
 pub mod Memory
+pub mod Places
 pub mod Sound
 pub mod Kinds
