@@ -1,4 +1,5 @@
 -- The laws of byte tables.
 pub mod Equal
 pub mod Marks
+pub mod Sights
 pub mod Sizes

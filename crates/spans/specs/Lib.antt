@@ -2,3 +2,4 @@
 pub mod Keys
 pub mod Marks
 pub mod Memory
+pub mod Probing

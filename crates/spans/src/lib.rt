@@ -1,13 +1,22 @@
 // Byte tables without their values: sizes, the words of a slot, the probing loop, the scan, the survey, and the plans of insert and remove.
 ghost use mathlib.Core.Path.{_≡_};
-ghost use Prim.Native.Nat.{_+_, _≤_};
+ghost use Prim.Native.Nat.{_+_, _<_};
 ghost use lib.Dec.{eqb};
 ghost use lib.ListN.{length, getD};
 ghost use Rattle.spans.specs.Keys.{sameBytes};
-ghost use Rattle.spans.specs.Memory.{spansOf, endAt, fitting, askedOf, keptOf};
+ghost use Rattle.spans.specs.Memory.{spansOf, fitting, askedOf, keptOf};
 ghost use Rattle.spans.specs.Marks.{markAt};
+ghost use Rattle.spans.specs.Probing.{sightAt, pathFrom, probing};
+use answers::Refusal;
 use digest::KEY_LIMIT;
+use digest::slot_of_key;
 use digest::slots_fit;
+use kinds::Probed;
+use kinds::Sight;
+use kinds::ended_at;
+use kinds::first_free;
+use kinds::next_slot;
+use kinds::passed_free;
 
 // The most bytes that an arena has.
 pub const ARENA_LIMIT: usize = 32768;
@@ -104,4 +113,66 @@ pub fn same_bytes(a: &[u8], b: &[u8]) -> bool
         return true;
     }
     false
+}
+
+// The look at a slot, for a key.
+pub fn look(marks: &[u8], offsets: &[u16], lengths: &[u8], arena: &[u8], slot: usize, key: &[u8]) -> Sight
+    ensures { λ r. ⌜ r ≡ sightAt (spansOf (now (marks .entry)) (now (offsets .entry)) (now (lengths .entry)) (now (arena .entry))) (now (key .entry)) slot ⌝ }
+{
+    let mark = mark_at(marks, offsets, lengths, arena, slot);
+    if mark == 0 {
+        return Sight::Never;
+    }
+    if 2 < mark {
+        return Sight::Bad;
+    }
+    if mark == 2 {
+        return Sight::On;
+    }
+    let start = offset_at(offsets, slot) as usize;
+    let end = end_at(offsets, lengths, slot);
+    if same_bytes(&arena[start..end], key) {
+        return Sight::Same;
+    }
+    Sight::On
+}
+
+// The path of a key from its home slot, slot by slot: each break is an answer.
+fn walk_path(marks: &[u8], offsets: &[u16], lengths: &[u8], arena: &[u8], key: &[u8], home: usize) -> Probed
+    requires { ⌜ home < length (now marks) ⌝ }
+    ensures { λ r. ⌜ r ≡ pathFrom (spansOf (now (marks .entry)) (now (offsets .entry)) (now (lengths .entry)) (now (arena .entry))) home (now (key .entry)) ⌝ }
+{
+    let size = marks.len();
+    let mut slot = home;
+    let mut n = 0;
+    let mut free = size;
+    loop {
+        if n == size {
+            break ended_at(free, size, n);
+        }
+        let sight = look(marks, offsets, lengths, arena, slot, key);
+        match sight {
+            Sight::Never => break ended_at(first_free(free, slot, size), size, n + 1),
+            Sight::Bad => break Probed::Refused(Refusal::Damaged),
+            Sight::Same => break Probed::Hit(slot, n + 1),
+            Sight::On => {}
+        }
+        free = passed_free(marks[slot], free, slot, size);
+        slot = next_slot(slot, size);
+        n += 1;
+    }
+}
+
+// The probing of a key: refusal 1 or 2, or what its path found.
+pub fn probe(marks: &[u8], offsets: &[u16], lengths: &[u8], arena: &[u8], key: &[u8]) -> Probed
+    ensures { λ r. ⌜ r ≡ probing (spansOf (now (marks .entry)) (now (offsets .entry)) (now (lengths .entry)) (now (arena .entry))) (now (key .entry)) ⌝ }
+{
+    if fits(marks, offsets, lengths, arena) {
+        if may_ask(key) {
+            let home = slot_of_key(key, marks.len() as u64, 0) as usize;
+            return walk_path(marks, offsets, lengths, arena, key, home);
+        }
+        return Probed::Refused(Refusal::LongKey);
+    }
+    Probed::Refused(Refusal::Sizes)
 }
