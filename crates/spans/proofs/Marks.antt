@@ -33,3 +33,8 @@ module _ (s : Spans) (i : ℕ) {m : ℕ} (p : m ≡ getD (s .marks) i 0) where
   pub mark-other : (m ≡ 1 → ⊥) → m ≡ markAt s i
   unfolding markAt
   mark-other h = p ∙ shown-other (leb (endAt s i) (length (s .arena))) (getD (s .marks) i 0) (λ e. h (p ∙ e))
+
+-- beyond the marks every mark is 0
+pub marks-beyond : (s : Spans) (j : ℕ) → length (s .marks) ≤ j → markAt s j ≡ 0
+unfolding markAt shown
+marks-beyond s j l = rw (List·getD-eq-default (s .marks) 0 l)

@@ -3,3 +3,4 @@ pub mod Keys
 pub mod Marks
 pub mod Memory
 pub mod Probing
+pub mod Scanning

@@ -7,12 +7,16 @@ ghost use Rattle.spans.specs.Keys.{sameBytes};
 ghost use Rattle.spans.specs.Memory.{spansOf, fitting, askedOf, keptOf};
 ghost use Rattle.spans.specs.Marks.{markAt};
 ghost use Rattle.spans.specs.Probing.{sightAt, pathFrom, probing};
+ghost use Rattle.spans.specs.Scanning.{scanning, nexting};
 use answers::Refusal;
 use digest::KEY_LIMIT;
 use digest::slot_of_key;
 use digest::slots_fit;
+use kinds::Next;
 use kinds::Probed;
+use kinds::Scanned;
 use kinds::Sight;
+use kinds::count_mark;
 use kinds::ended_at;
 use kinds::first_free;
 use kinds::next_slot;
@@ -175,4 +179,42 @@ pub fn probe(marks: &[u8], offsets: &[u16], lengths: &[u8], arena: &[u8], key: &
         return Probed::Refused(Refusal::LongKey);
     }
     Probed::Refused(Refusal::Sizes)
+}
+
+// The scan of all slots: damage, else the number of live slots.
+pub fn scan(marks: &[u8], offsets: &[u16], lengths: &[u8], arena: &[u8]) -> Scanned
+    ensures { λ r. ⌜ r ≡ scanning (spansOf (now (marks .entry)) (now (offsets .entry)) (now (lengths .entry)) (now (arena .entry))) ⌝ }
+{
+    let mut live = 0;
+    let mut i = 0;
+    while i < marks.len() {
+        let mark = mark_at(marks, offsets, lengths, arena, i);
+        if 2 < mark {
+            return Scanned::Bad;
+        }
+        live += count_mark(mark);
+        i += 1;
+    }
+    Scanned::Live(live)
+}
+
+// The first live or damaged slot from `at` on, before `end`; beyond the marks there is none.
+pub fn next_live(marks: &[u8], offsets: &[u16], lengths: &[u8], arena: &[u8], at: usize, end: usize) -> Next
+    ensures { λ r. ⌜ r ≡ nexting (spansOf (now (marks .entry)) (now (offsets .entry)) (now (lengths .entry)) (now (arena .entry))) at end ⌝ }
+{
+    let mut i = at;
+    while i < end {
+        if marks.len() <= i {
+            return Next::Nothing;
+        }
+        let here = mark_at(marks, offsets, lengths, arena, i);
+        if here == 1 {
+            return Next::Live(i);
+        }
+        if 2 < here {
+            return Next::Bad;
+        }
+        i += 1;
+    }
+    Next::Nothing
 }
