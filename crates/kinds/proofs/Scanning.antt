@@ -28,7 +28,7 @@ module _ {K W : Type 0} where
   cell-bad (suc (suc (suc m))) k v l = refl
 
   -- others are none
-  cell-sound : (m : ℕ) (k : K) (v : W) → m ≤ 2 → hurts (cell m k v) ≡ false
+  pub cell-sound : (m : ℕ) (k : K) (v : W) → m ≤ 2 → hurts (cell m k v) ≡ false
   unfolding cell hurts
   cell-sound zero k v l = refl
   cell-sound (suc zero) k v l = refl

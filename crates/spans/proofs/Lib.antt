@@ -3,3 +3,4 @@ pub mod Equal
 pub mod Marks
 pub mod Sights
 pub mod Sizes
+pub mod Surveys

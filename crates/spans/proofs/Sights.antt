@@ -4,10 +4,8 @@ use mathlib.Core.Bool.{Bool, true, false}
 use mathlib.Core.List.{List}
 use mathlib.Core.Path.{_≡_, refl, sym, _∙_}
 use native.Mathlib.Omega.{arith}
-use borrow.Author.Tests.{leb-true}
 use lib.Dec.{eqb, leb}
 use lib.ListN.{length, getD, take, drop}
-use Rattle.model.proofs.Cases.{by-bool}
 use Rattle.kinds.specs.Marks.{cell}
 use Rattle.kinds.specs.declared.Sight.the-variants.{Never, Bad, Same, On}
 use Rattle.kinds.specs.Probing.{lookAt, lookOf, passedFree}
@@ -16,18 +14,7 @@ use Rattle.spans.specs.Keys.{sameBytes}
 use Rattle.spans.specs.Memory.{Spans, part, endAt, keyAt}
 use Rattle.spans.specs.Marks.{shown, markAt}
 use Rattle.spans.specs.Probing.{sightAt}
-
--- a live mark is shown only where its span is in the arena
-shown-live : (b : Bool) (m : ℕ) → shown b m ≡ 1 → b ≡ true
-unfolding shown
-shown-live true m e = refl
-shown-live false zero e = absurd (omega arith)
-shown-live false (suc zero) e = absurd (omega arith)
-shown-live false (suc (suc m)) e = absurd (omega arith)
-
-pub live-within : (s : Spans) (i : ℕ) → markAt s i ≡ 1 → endAt s i ≤ length (s .arena)
-unfolding markAt
-live-within s i e = leb-true (endAt s i) (length (s .arena)) (shown-live (leb (endAt s i) (length (s .arena))) (getD (s .marks) i 0) e)
+use Rattle.spans.proofs.Marks.{live-within}
 
 -- any other mark than 0, 2 and damage is 1: a span in the arena
 pub sight-within : (s : Spans) (i : ℕ) {m e : ℕ} → m ≡ markAt s i → (m ≡ 0 → ⊥) → m ≤ 2 → (m ≡ 2 → ⊥) → e ≡ getD (s .offsets) i 0 + getD (s .lengths) i 0 → e ≤ length (s .arena)

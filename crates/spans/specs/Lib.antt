@@ -4,3 +4,4 @@ pub mod Marks
 pub mod Memory
 pub mod Probing
 pub mod Scanning
+pub mod Surveying

@@ -8,6 +8,7 @@ ghost use Rattle.spans.specs.Memory.{spansOf, fitting, askedOf, keptOf};
 ghost use Rattle.spans.specs.Marks.{markAt};
 ghost use Rattle.spans.specs.Probing.{sightAt, pathFrom, probing};
 ghost use Rattle.spans.specs.Scanning.{scanning, nexting};
+ghost use Rattle.spans.specs.Surveying.{liveLength, higherEnd, surveying};
 use answers::Refusal;
 use digest::KEY_LIMIT;
 use digest::slot_of_key;
@@ -24,6 +25,12 @@ use kinds::passed_free;
 
 // The most bytes that an arena has.
 pub const ARENA_LIMIT: usize = 32768;
+
+// What a survey of all slots found: `used`, or full damage.
+pub enum Surveyed {
+    Used(usize),
+    Bad,
+}
 
 // The byte at i, 0 beyond the array.
 pub fn byte_at(bytes: &[u8], i: usize) -> u8
@@ -217,4 +224,52 @@ pub fn next_live(marks: &[u8], offsets: &[u16], lengths: &[u8], arena: &[u8], at
         i += 1;
     }
     Next::Nothing
+}
+
+// What a slot with this mark and length adds to `used`.
+fn live_len(mark: u8, length: u16) -> usize
+    ensures { λ r. ⌜ r ≡ liveLength mark length ⌝ }
+{
+    if mark == 1 {
+        return length as usize;
+    }
+    0
+}
+
+// The largest end of a live span so far, after a slot with this mark and end.
+fn higher_end(mark: u8, end: usize, top: usize) -> usize
+    ensures { λ r. ⌜ r ≡ higherEnd mark end top ⌝ }
+{
+    if mark == 1 {
+        if top < end {
+            return end;
+        }
+        return top;
+    }
+    top
+}
+
+// The survey of all slots: full damage, else `used`. A sum above the arena is damage at once, so it never overflows.
+pub fn survey(marks: &[u8], offsets: &[u16], lengths: &[u8], arena: &[u8]) -> Surveyed
+    ensures { λ r. ⌜ r ≡ surveying (spansOf (now (marks .entry)) (now (offsets .entry)) (now (lengths .entry)) (now (arena .entry))) ⌝ }
+{
+    let mut used = 0;
+    let mut top = 0;
+    let mut i = 0;
+    while i < marks.len() {
+        let mark = mark_at(marks, offsets, lengths, arena, i);
+        if 2 < mark {
+            return Surveyed::Bad;
+        }
+        used += live_len(mark, len_at(lengths, i));
+        if arena.len() < used {
+            return Surveyed::Bad;
+        }
+        top = higher_end(mark, end_at(offsets, lengths, i), top);
+        i += 1;
+    }
+    if used < top {
+        return Surveyed::Bad;
+    }
+    Surveyed::Used(used)
 }
