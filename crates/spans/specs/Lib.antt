@@ -2,6 +2,7 @@
 pub mod Keys
 pub mod Marks
 pub mod Memory
+pub mod Planning
 pub mod Probing
 pub mod Scanning
 pub mod Surveying

@@ -1,12 +1,13 @@
 // Byte tables without their values: sizes, the words of a slot, the probing loop, the scan, the survey, and the plans of insert and remove.
 ghost use mathlib.Core.Path.{_≡_};
-ghost use Prim.Native.Nat.{_+_, _<_};
-ghost use lib.Dec.{eqb};
+ghost use Prim.Native.Nat.{_+_, _-_, _≤_, _<_};
+ghost use lib.Dec.{eqb, leb};
 ghost use lib.ListN.{length, getD};
 ghost use Rattle.spans.specs.Keys.{sameBytes};
 ghost use Rattle.spans.specs.Memory.{spansOf, fitting, askedOf, keptOf};
 ghost use Rattle.spans.specs.Marks.{markAt};
 ghost use Rattle.spans.specs.Probing.{sightAt, pathFrom, probing};
+ghost use Rattle.spans.specs.Planning.{placedBy, placing, locatedBy, locating};
 ghost use Rattle.spans.specs.Scanning.{scanning, nexting};
 ghost use Rattle.spans.specs.Surveying.{liveLength, higherEnd, surveying};
 use answers::Refusal;
@@ -30,6 +31,20 @@ pub const ARENA_LIMIT: usize = 32768;
 pub enum Surveyed {
     Used(usize),
     Bad,
+}
+
+// The plan of a call that stores a key: the key's slot, or a free slot with `used`, each with the examined number; or a refusal.
+pub enum Placed {
+    Hit(usize, usize),
+    Free(usize, usize, usize),
+    Refused(Refusal),
+}
+
+// The plan of remove: the key's slot with the examined number and `used`, or the examined number of an absent key; or a refusal.
+pub enum Located {
+    Hit(usize, usize, usize),
+    Absent(usize),
+    Refused(Refusal),
 }
 
 // The byte at i, 0 beyond the array.
@@ -272,4 +287,76 @@ pub fn survey(marks: &[u8], offsets: &[u16], lengths: &[u8], arena: &[u8]) -> Su
         return Surveyed::Bad;
     }
     Surveyed::Used(used)
+}
+
+// What a storing call makes of its path: an absent key needs a free slot, and its bytes beside the `used` ones.
+fn placed_by(found: Probed, used: usize, size: usize, length: usize) -> Placed
+    requires { ⌜ used ≤ size ⌝ }
+    ensures { λ r. ⌜ r ≡ placedBy used (leb length (size - used)) found ⌝ }
+{
+    match found {
+        Probed::Hit(slot, examined) => Placed::Hit(slot, examined),
+        Probed::Free(slot, examined) => {
+            if length <= size - used {
+                return Placed::Free(slot, examined, used);
+            }
+            Placed::Refused(Refusal::NoBytes)
+        }
+        Probed::Full(_) => Placed::Refused(Refusal::NoSlot),
+        Probed::Refused(refusal) => Placed::Refused(refusal),
+    }
+}
+
+// The plan of a call that stores a key: its tests in order, then what its path says.
+pub fn place(marks: &[u8], offsets: &[u16], lengths: &[u8], arena: &[u8], key: &[u8]) -> Placed
+    ensures { λ r. ⌜ r ≡ placing (spansOf (now (marks .entry)) (now (offsets .entry)) (now (lengths .entry)) (now (arena .entry))) (now (key .entry)) ⌝ }
+{
+    if fits(marks, offsets, lengths, arena) {
+        if may_keep(key) {
+            let found = survey(marks, offsets, lengths, arena);
+            match found {
+                Surveyed::Used(used) => {
+                    let home = slot_of_key(key, marks.len() as u64, 0) as usize;
+                    let path = walk_path(marks, offsets, lengths, arena, key, home);
+                    return placed_by(path, used, arena.len(), key.len());
+                }
+                Surveyed::Bad => return Placed::Refused(Refusal::Damaged),
+            }
+        }
+        return Placed::Refused(Refusal::LongKey);
+    }
+    Placed::Refused(Refusal::Sizes)
+}
+
+// What remove makes of its path.
+fn located_by(found: Probed, used: usize) -> Located
+    ensures { λ r. ⌜ r ≡ locatedBy used found ⌝ }
+{
+    match found {
+        Probed::Hit(slot, examined) => Located::Hit(slot, examined, used),
+        Probed::Free(_, examined) => Located::Absent(examined),
+        Probed::Full(examined) => Located::Absent(examined),
+        Probed::Refused(refusal) => Located::Refused(refusal),
+    }
+}
+
+// The plan of remove: its tests in order, then what its path says.
+pub fn locate(marks: &[u8], offsets: &[u16], lengths: &[u8], arena: &[u8], key: &[u8]) -> Located
+    ensures { λ r. ⌜ r ≡ locating (spansOf (now (marks .entry)) (now (offsets .entry)) (now (lengths .entry)) (now (arena .entry))) (now (key .entry)) ⌝ }
+{
+    if fits(marks, offsets, lengths, arena) {
+        if may_ask(key) {
+            let found = survey(marks, offsets, lengths, arena);
+            match found {
+                Surveyed::Used(used) => {
+                    let home = slot_of_key(key, marks.len() as u64, 0) as usize;
+                    let path = walk_path(marks, offsets, lengths, arena, key, home);
+                    return located_by(path, used);
+                }
+                Surveyed::Bad => return Located::Refused(Refusal::Damaged),
+            }
+        }
+        return Located::Refused(Refusal::LongKey);
+    }
+    Located::Refused(Refusal::Sizes)
 }
