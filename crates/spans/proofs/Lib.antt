@@ -1,4 +1,5 @@
 -- The laws of byte tables.
+pub mod Bridge
 pub mod Equal
 pub mod Marks
 pub mod Plans
