@@ -2,7 +2,7 @@
 ghost use mathlib.Core.Path.{_≡_};
 ghost use Prim.Native.Nat.{_+_, _-_, _≤_, _<_};
 ghost use lib.Dec.{eqb, leb};
-ghost use lib.ListN.{length, getD};
+ghost use lib.ListN.{length, getD, set};
 ghost use Rattle.spans.specs.Keys.{sameBytes};
 ghost use Rattle.spans.specs.Memory.{spansOf, fitting, askedOf, keptOf};
 ghost use Rattle.spans.specs.Marks.{markAt};
@@ -72,6 +72,14 @@ pub fn len_at(lengths: &[u8], i: usize) -> u16
     ensures { λ r. ⌜ r ≡ getD (now (lengths .entry)) i 0 ⌝ }
 {
     byte_at(lengths, i) as u16
+}
+
+// The length of slot i is set.
+pub fn put_len(lengths: &mut [u8], i: usize, n: usize)
+    requires { ⌜ (i < length (now lengths)) × (n ≤ 255) ⌝ }
+    ensures { λ r. ⌜ now (lengths .exit) ≡ set (now (lengths .entry)) i n ⌝ }
+{
+    lengths[i] = n as u8;
 }
 
 // The end of the span of slot i.

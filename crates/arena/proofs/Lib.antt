@@ -1,0 +1,3 @@
+-- The laws of the two acts on the arena.
+pub mod Passing
+pub mod Shifts

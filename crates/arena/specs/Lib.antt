@@ -1,0 +1,2 @@
+-- What the acts on the arena ask.
+pub mod Needs
