@@ -5,7 +5,7 @@ use mathlib.Core.List.{List}
 use mathlib.Core.Path.{_≡_, refl, sym, _∙_}
 use native.Mathlib.Omega.{arith}
 use borrow.Author.Tests.{le-leb}
-use lib.Dec.{eqb}
+use lib.Dec.{eqb, leb}
 use lib.ListN.{length}
 use Rattle.model.specs.Store.{path, slotAt, live-count, used, hurtful}
 use Rattle.model.specs.Path.{hit}
@@ -71,7 +71,9 @@ module _ {W : Type 0} (C : Column W) (m : Cells C) where
     seen-probing f = rw (probing-path f) (seen-path (cells C) m (wordsOf (m .marks)) (wordsOf (m .keys)) (C .read (m .words)) refl k)
 
     pub spot-probing : fitting (m .marks) (m .keys) ≡ true → spotBy (cells C) m k (path (cells C) m k) ≡ spotOf (C .read (m .words)) (probing (m .marks) (m .keys) k)
-    spot-probing f = rw (probing-path f) (spot-path (cells C) m (wordsOf (m .marks)) (wordsOf (m .keys)) (C .read (m .words)) refl k true (le-leb 0 (0 - used (cells C) m) (omega arith)))
+    spot-probing f =
+        let room : leb 0 (0 - used (cells C) m) ≡ true = le-leb 0 (0 - used (cells C) m) (omega arith) in
+        rw (probing-path f, ← room) (spot-path (cells C) m (wordsOf (m .marks)) (wordsOf (m .keys)) (C .read (m .words)) refl k)
 
     -- where a probing answered r
     module _ {r : Probed} (p : r ≡ probing (m .marks) (m .keys) k) where

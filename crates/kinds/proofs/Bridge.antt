@@ -33,8 +33,7 @@ seenOf read (Refused x) = no (numberOf x)
 -- What entry and insert answer, where the key's bytes fit or not.
 abbrev pub spotIn : {W : Type 0} → Bool → (ℕ → W) → Probed → Or (Spot W)
 spotIn room read (Hit s e) = ok (occupied s (read s) e)
-spotIn true read (Free s e) = ok (vacant s e)
-spotIn false read (Free s e) = no 8
+spotIn room read (Free s e) = cond room (ok (vacant s e)) (no 8)
 spotIn room read (Full e) = no 7
 spotIn room read (Refused x) = no (numberOf x)
 
@@ -221,17 +220,14 @@ module _ {K W : Type 0} (M : Store K W) (m : M .State) (mark : ℕ → ℕ) (key
     seen-path = seen-along (path M m k) refl
 
     -- what entry and insert answer
-    spot-along : (b : Bool) → leb (M .weight k) (M .bytes m - used M m) ≡ b → (x : Find W) → path M m k ≡ x → spotBy M m k x ≡ spotIn b v (along (M .size m) (M .home m k) x)
+    spot-along : (x : Find W) → path M m k ≡ x → spotBy M m k x ≡ spotIn (leb (M .weight k) (M .bytes m - used M m)) v (along (M .size m) (M .home m k) x)
     unfolding spotBy along slotAt need
-    spot-along true r (hit n w) q = rw (hit-value k n w q)
-    spot-along true r (miss e f) q = by-bool (ltb f (M .size m)) (λ t. rw (t, r)) (λ t. rw t)
-    spot-along true r hurt q = refl
-    spot-along false r (hit n w) q = rw (hit-value k n w q)
-    spot-along false r (miss e f) q = by-bool (ltb f (M .size m)) (λ t. rw (t, r)) (λ t. rw t)
-    spot-along false r hurt q = refl
+    spot-along (hit n w) q = rw (hit-value k n w q)
+    spot-along (miss e f) q = by-bool (ltb f (M .size m)) (λ t. rw t (by-bool (leb (M .weight k) (M .bytes m - used M m)) (λ r. rw r) (λ r. rw r))) (λ t. rw t)
+    spot-along hurt q = refl
 
-    pub spot-path : (b : Bool) → leb (M .weight k) (M .bytes m - used M m) ≡ b → spotBy M m k (path M m k) ≡ spotIn b v (along (M .size m) (M .home m k) (path M m k))
-    spot-path b r = spot-along b r (path M m k) refl
+    pub spot-path : spotBy M m k (path M m k) ≡ spotIn (leb (M .weight k) (M .bytes m - used M m)) v (along (M .size m) (M .home m k) (path M m k))
+    spot-path = spot-along (path M m k) refl
 
   -- the scan is the store's own damage and length
   pub scanning-cells : scanningOf mark (M .size m) ≡ cond (hurtful M m) scanned.Bad (scanned.Live (live-count M m))

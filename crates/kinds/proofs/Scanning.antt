@@ -11,7 +11,7 @@ use Rattle.model.specs.Path.{from}
 use Rattle.model.specs.Walk.{halts}
 use Rattle.model.proofs.Cases.{by-bool, by-lt}
 use Rattle.model.proofs.Path.{from-low}
-use Rattle.model.proofs.Slots.{damaged-bad, count-high}
+use Rattle.model.proofs.Slots.{damaged-bad}
 use Rattle.kinds.specs.declared.Scanned.the-variants as scanned
 use Rattle.kinds.specs.declared.Next.{Next}
 use Rattle.kinds.specs.declared.Next.the-variants as next
@@ -28,7 +28,7 @@ module _ {K W : Type 0} where
   cell-bad (suc (suc (suc m))) k v l = refl
 
   -- others are none
-  cell-sound : (m : ℕ) (k : K) (v : W) → m ≤ 2 → hurts (cell m k v) ≡ false
+  pub cell-sound : (m : ℕ) (k : K) (v : W) → m ≤ 2 → hurts (cell m k v) ≡ false
   unfolding cell hurts
   cell-sound zero k v l = refl
   cell-sound (suc zero) k v l = refl
@@ -67,18 +67,20 @@ unfolding total damaged
 scan-start mark S = record { within = omega arith; low = omega arith; lives = refl; sound = refl }
 
 module _ {mark : ℕ → ℕ} {S live i : ℕ} (w : Scanning mark S live i) where
-  pub scan-bad : i < S → 2 < mark i → scanned.Bad ≡ scanningOf mark S
-  unfolding scanningOf
-  scan-bad l h = rw (damaged-bad (marksOnly mark) S i l (cell-bad (mark i) tt tt h))
+  -- the next slot's mark
+  module _ {m : ℕ} (l : i < S) (p : m ≡ mark i) where
+    pub scan-bad : 2 < m → scanned.Bad ≡ scanningOf mark S
+    unfolding scanningOf
+    scan-bad h = rw (damaged-bad (marksOnly mark) S i l (cell-bad (mark i) tt tt (rw p at h)))
 
-  pub scan-on : {r : ℕ} → i < S → mark i ≤ 2 → r ≡ counted (mark i) → Scanning mark S (live + r) (i + 1)
-  unfolding total damaged
-  scan-on {r} l h e = record {
-    within = omega arith;
-    low = omega (arith, counted-weighs (mark i) (tt {0}) (tt {0}), count-high (marksOnly mark) (suc i));
-    lives = rw (add-one, e, counted-weighs (mark i) (tt {0}) (tt {0}), w .lives);
-    sound = rw (add-one, cell-sound (mark i) (tt {0}) (tt {0}) h) (w .sound);
-  }
+    pub scan-on : {r : ℕ} → m ≤ 2 → r ≡ counted m → Scanning mark S (live + r) (i + 1)
+    unfolding total damaged
+    scan-on {r} h e = record {
+      within = omega arith;
+      low = omega (arith, counted-low m e);
+      lives = rw (add-one, e, p, counted-weighs (mark i) (tt {0}) (tt {0}), w .lives);
+      sound = rw (add-one, cell-sound (mark i) (tt {0}) (tt {0}) (rw p at h)) (w .sound);
+    }
 
   pub scan-end : S ≤ i → scanned.Live live ≡ scanningOf mark S
   unfolding scanningOf
@@ -93,17 +95,22 @@ pub ahead-start : (mark : ℕ → ℕ) (S e i : ℕ) → ((j : ℕ) → S ≤ j 
 ahead-start mark S e i h = record { beyond = h; gives = refl }
 
 module _ {mark : ℕ → ℕ} {S e i : ℕ} {a : Next} (w : Ahead mark S e i a) where
-  pub ahead-live : i < e → mark i ≡ 1 → next.Live i ≡ a
-  unfolding nextingOf from nextAt halts cell
-  ahead-live l h = let q : e - i ≡ suc (e - suc i) = omega arith in rw (← w .gives, q, h, lt-ltb i e l, h)
+  -- the next slot's mark
+  module _ {m : ℕ} (l : i < e) (p : m ≡ mark i) where
+    more : e - i ≡ suc (e - suc i)
+    more = omega arith
 
-  pub ahead-bad : i < e → 2 < mark i → next.Bad ≡ a
-  unfolding nextingOf from nextAt halts
-  ahead-bad l h = let q : e - i ≡ suc (e - suc i) = omega arith in rw (← w .gives, q, cell-bad (mark i) (tt {0}) (tt {0}) h, lt-ltb i e l, cell-bad (mark i) (tt {0}) (tt {0}) h)
+    pub ahead-live : m ≡ 1 → next.Live i ≡ a
+    unfolding nextingOf from nextAt halts cell
+    ahead-live h = let z : mark i ≡ 1 = omega arith in rw (← w .gives, more, z, lt-ltb i e l, z)
 
-  pub ahead-on : i < e → mark i ≤ 2 → (mark i ≡ 1 → ⊥) → Ahead mark S e (i + 1) a
-  unfolding nextingOf from
-  ahead-on l h k = record { beyond = w .beyond; gives = let q : e - i ≡ suc (e - suc i) = omega arith in rw (← w .gives, q, cell-passed (mark i) (tt {0}) (tt {0}) h k, add-one) }
+    pub ahead-bad : 2 < m → next.Bad ≡ a
+    unfolding nextingOf from nextAt halts
+    ahead-bad h = let z = cell-bad (mark i) (tt {0}) (tt {0}) (rw p at h) in rw (← w .gives, more, z, lt-ltb i e l, z)
+
+    pub ahead-on : m ≤ 2 → (m ≡ 1 → ⊥) → Ahead mark S e (i + 1) a
+    unfolding nextingOf from
+    ahead-on h k = record { beyond = w .beyond; gives = rw (← w .gives, more, cell-passed (mark i) (tt {0}) (tt {0}) (rw p at h) (λ z. k (omega arith)), add-one) }
 
   pub ahead-past : S ≤ i → next.Nothing ≡ a
   unfolding nextingOf nextAt cell

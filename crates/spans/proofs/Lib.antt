@@ -6,6 +6,10 @@ pub mod Paper
 pub mod Places
 pub mod Tiled
 pub mod Writes
+pub mod Bridge
 pub mod Equal
 pub mod Marks
+pub mod Plans
+pub mod Sights
 pub mod Sizes
+pub mod Surveys

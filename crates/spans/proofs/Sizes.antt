@@ -8,8 +8,13 @@ use borrow.Author.Tests.{ltb-true, leb-true, eqb-true, eq-eqb, ne-eqb}
 use lib.Dec.{ltb, leb, eqb}
 use lib.ListN.{length}
 use Rattle.model.proofs.Cases.{both, by-bool}
-use Rattle.digest.specs.Home.{slotsFit, keyFits}
+use Rattle.digest.specs.Home.{homeOf, slotsFit, keyFits}
+use Rattle.digest.proofs.Bounds.{home-below}
+use Rattle.answers.specs.declared.Refusal.the-variants.{Sizes, LongKey}
+use Rattle.kinds.specs.declared.Probed.{Probed}
+use Rattle.kinds.specs.declared.Probed.the-variants.{Refused}
 use Rattle.spans.specs.Memory.{Spans, fitting, arenaLimit, askedOf, keptOf}
+use Rattle.spans.specs.Probing.{pathFrom, pathOf, probing}
 
 -- Marks, offsets and lengths of one length that is not 0, and an arena within its limit.
 pub record Sized (s : Spans) : Type 0 where
@@ -58,3 +63,22 @@ asked-test k = by-bool (keyFits (length k)) (λ e. rw e) (λ e. rw e)
 pub kept-test : (k : List ℕ) → keyFits (length k) ≡ eqb (keptOf k) 0
 unfolding keptOf
 kept-test k = asked-test k
+
+-- the probing, by the tests of sizes and key
+module _ (s : Spans) (k : List ℕ) {b : Bool} (p : b ≡ fitting s) where
+  -- where sizes fit, a key's home slot is one of the table's
+  pub home-fits : {h : ℕ} → b ≡ true → h ≡ homeOf 0 (length (s .marks)) k → h < length (s .marks)
+  home-fits q e = rw e (home-below 0 (length (s .marks)) k (fitting-says s (sym p ∙ q) .some))
+
+  pub probing-unfit : b ≡ false → Refused Sizes ≡ probing s k
+  unfolding probing
+  probing-unfit q = rw (sym p ∙ q)
+
+  module _ (q : b ≡ true) {t : Bool} (w : t ≡ eqb (askedOf k) 0) where
+    pub probing-long : t ≡ false → Refused LongKey ≡ probing s k
+    unfolding probing
+    probing-long e = rw (sym p ∙ q, sym w ∙ e)
+
+    pub probing-path : {h : ℕ} {r : Probed} → t ≡ true → h ≡ homeOf 0 (length (s .marks)) k → r ≡ pathFrom s h k → r ≡ probing s k
+    unfolding probing pathOf
+    probing-path e h v = rw (sym p ∙ q, sym w ∙ e, ← h) v

@@ -5,3 +5,7 @@ pub mod Memory
 pub mod Places
 pub mod Sound
 pub mod Kinds
+pub mod Planning
+pub mod Probing
+pub mod Scanning
+pub mod Surveying

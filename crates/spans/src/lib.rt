@@ -1,16 +1,51 @@
 // Byte tables without their values: sizes, the words of a slot, the probing loop, the scan, the survey, and the plans of insert and remove.
 ghost use mathlib.Core.Path.{_≡_};
-ghost use Prim.Native.Nat.{_+_, _≤_, _<_};
-ghost use lib.Dec.{eqb};
+ghost use Prim.Native.Nat.{_+_, _-_, _≤_, _<_};
+ghost use lib.Dec.{eqb, leb};
 ghost use lib.ListN.{length, getD, set};
 ghost use Rattle.spans.specs.Keys.{sameBytes};
-ghost use Rattle.spans.specs.Memory.{spansOf, endAt, fitting, askedOf, keptOf};
+ghost use Rattle.spans.specs.Memory.{spansOf, fitting, askedOf, keptOf};
 ghost use Rattle.spans.specs.Marks.{markAt};
+ghost use Rattle.spans.specs.Probing.{sightAt, pathFrom, probing};
+ghost use Rattle.spans.specs.Planning.{placedBy, placing, locatedBy, locating};
+ghost use Rattle.spans.specs.Scanning.{scanning, nexting};
+ghost use Rattle.spans.specs.Surveying.{liveLength, higherEnd, surveying};
+use answers::Refusal;
 use digest::KEY_LIMIT;
+use digest::slot_of_key;
 use digest::slots_fit;
+use kinds::Next;
+use kinds::Probed;
+use kinds::Scanned;
+use kinds::Sight;
+use kinds::count_mark;
+use kinds::ended_at;
+use kinds::first_free;
+use kinds::next_slot;
+use kinds::passed_free;
 
 // The most bytes that an arena has.
 pub const ARENA_LIMIT: usize = 32768;
+
+// What a survey of all slots found: `used`, or full damage.
+pub enum Surveyed {
+    Used(usize),
+    Bad,
+}
+
+// The plan of a call that stores a key: the key's slot, or a free slot with `used`, each with the examined number; or a refusal.
+pub enum Placed {
+    Hit(usize, usize),
+    Free(usize, usize, usize),
+    Refused(Refusal),
+}
+
+// The plan of remove: the key's slot with the examined number and `used`, or the examined number of an absent key; or a refusal.
+pub enum Located {
+    Hit(usize, usize, usize),
+    Absent(usize),
+    Refused(Refusal),
+}
 
 // The byte at i, 0 beyond the array.
 pub fn byte_at(bytes: &[u8], i: usize) -> u8
@@ -37,6 +72,14 @@ pub fn len_at(lengths: &[u8], i: usize) -> u16
     ensures { λ r. ⌜ r ≡ getD (now (lengths .entry)) i 0 ⌝ }
 {
     byte_at(lengths, i) as u16
+}
+
+// The length of slot i is set.
+pub fn put_len(lengths: &mut [u8], i: usize, n: usize)
+    requires { ⌜ (i < length (now lengths)) × (n ≤ 255) ⌝ }
+    ensures { λ r. ⌜ now (lengths .exit) ≡ set (now (lengths .entry)) i n ⌝ }
+{
+    lengths[i] = n as u8;
 }
 
 // The end of the span of slot i.
@@ -106,10 +149,243 @@ pub fn same_bytes(a: &[u8], b: &[u8]) -> bool
     false
 }
 
-// The length of slot i is to be n.
-pub fn put_len(lengths: &mut [u8], i: usize, n: usize)
-    requires { ⌜ (i < length (now lengths)) × (n ≤ 255) ⌝ }
-    ensures { λ r. ⌜ now (lengths .exit) ≡ set (now (lengths .entry)) i n ⌝ }
+// The look at a slot, for a key.
+pub fn look(
+    marks: &[u8],
+    offsets: &[u16],
+    lengths: &[u8],
+    arena: &[u8],
+    slot: usize,
+    key: &[u8],
+) -> Sight
+    ensures { λ r. ⌜ r ≡ sightAt (spansOf (now (marks .entry)) (now (offsets .entry)) (now (lengths .entry)) (now (arena .entry))) (now (key .entry)) slot ⌝ }
 {
-    lengths[i] = n as u8;
+    let mark = mark_at(marks, offsets, lengths, arena, slot);
+    if mark == 0 {
+        return Sight::Never;
+    }
+    if 2 < mark {
+        return Sight::Bad;
+    }
+    if mark == 2 {
+        return Sight::On;
+    }
+    let start = offset_at(offsets, slot) as usize;
+    let end = end_at(offsets, lengths, slot);
+    if same_bytes(&arena[start..end], key) {
+        return Sight::Same;
+    }
+    Sight::On
+}
+
+// The path of a key from its home slot, slot by slot: each break is an answer.
+fn walk_path(
+    marks: &[u8],
+    offsets: &[u16],
+    lengths: &[u8],
+    arena: &[u8],
+    key: &[u8],
+    home: usize,
+) -> Probed
+    requires { ⌜ home < length (now marks) ⌝ }
+    ensures { λ r. ⌜ r ≡ pathFrom (spansOf (now (marks .entry)) (now (offsets .entry)) (now (lengths .entry)) (now (arena .entry))) home (now (key .entry)) ⌝ }
+{
+    let size = marks.len();
+    let mut slot = home;
+    let mut n = 0;
+    let mut free = size;
+    loop {
+        if n == size {
+            break ended_at(free, size, n);
+        }
+        let sight = look(marks, offsets, lengths, arena, slot, key);
+        match sight {
+            Sight::Never => break ended_at(first_free(free, slot, size), size, n + 1),
+            Sight::Bad => break Probed::Refused(Refusal::Damaged),
+            Sight::Same => break Probed::Hit(slot, n + 1),
+            Sight::On => {}
+        }
+        free = passed_free(marks[slot], free, slot, size);
+        slot = next_slot(slot, size);
+        n += 1;
+    }
+}
+
+// The probing of a key: refusal 1 or 2, or what its path found.
+pub fn probe(marks: &[u8], offsets: &[u16], lengths: &[u8], arena: &[u8], key: &[u8]) -> Probed
+    ensures { λ r. ⌜ r ≡ probing (spansOf (now (marks .entry)) (now (offsets .entry)) (now (lengths .entry)) (now (arena .entry))) (now (key .entry)) ⌝ }
+{
+    if fits(marks, offsets, lengths, arena) {
+        if may_ask(key) {
+            let home = slot_of_key(key, marks.len() as u64, 0) as usize;
+            return walk_path(marks, offsets, lengths, arena, key, home);
+        }
+        return Probed::Refused(Refusal::LongKey);
+    }
+    Probed::Refused(Refusal::Sizes)
+}
+
+// The scan of all slots: damage, else the number of live slots.
+pub fn scan(marks: &[u8], offsets: &[u16], lengths: &[u8], arena: &[u8]) -> Scanned
+    ensures { λ r. ⌜ r ≡ scanning (spansOf (now (marks .entry)) (now (offsets .entry)) (now (lengths .entry)) (now (arena .entry))) ⌝ }
+{
+    let mut live = 0;
+    let mut i = 0;
+    while i < marks.len() {
+        let mark = mark_at(marks, offsets, lengths, arena, i);
+        if 2 < mark {
+            return Scanned::Bad;
+        }
+        live += count_mark(mark);
+        i += 1;
+    }
+    Scanned::Live(live)
+}
+
+// The first live or damaged slot from `at` on, before `end`; beyond the marks there is none.
+pub fn next_live(
+    marks: &[u8],
+    offsets: &[u16],
+    lengths: &[u8],
+    arena: &[u8],
+    at: usize,
+    end: usize,
+) -> Next
+    ensures { λ r. ⌜ r ≡ nexting (spansOf (now (marks .entry)) (now (offsets .entry)) (now (lengths .entry)) (now (arena .entry))) at end ⌝ }
+{
+    let mut i = at;
+    while i < end {
+        if marks.len() <= i {
+            return Next::Nothing;
+        }
+        let here = mark_at(marks, offsets, lengths, arena, i);
+        if here == 1 {
+            return Next::Live(i);
+        }
+        if 2 < here {
+            return Next::Bad;
+        }
+        i += 1;
+    }
+    Next::Nothing
+}
+
+// What a slot with this mark and length adds to `used`.
+fn live_len(mark: u8, length: u16) -> usize
+    ensures { λ r. ⌜ r ≡ liveLength mark length ⌝ }
+{
+    if mark == 1 {
+        return length as usize;
+    }
+    0
+}
+
+// The largest end of a live span so far, after a slot with this mark and end.
+fn higher_end(mark: u8, end: usize, top: usize) -> usize
+    ensures { λ r. ⌜ r ≡ higherEnd mark end top ⌝ }
+{
+    if mark == 1 {
+        if top < end {
+            return end;
+        }
+        return top;
+    }
+    top
+}
+
+// The survey of all slots: full damage, else `used`. A sum above the arena is damage at once, so it never overflows.
+pub fn survey(marks: &[u8], offsets: &[u16], lengths: &[u8], arena: &[u8]) -> Surveyed
+    ensures { λ r. ⌜ r ≡ surveying (spansOf (now (marks .entry)) (now (offsets .entry)) (now (lengths .entry)) (now (arena .entry))) ⌝ }
+{
+    let mut used = 0;
+    let mut top = 0;
+    let mut i = 0;
+    while i < marks.len() {
+        let mark = mark_at(marks, offsets, lengths, arena, i);
+        if 2 < mark {
+            return Surveyed::Bad;
+        }
+        used += live_len(mark, len_at(lengths, i));
+        if arena.len() < used {
+            return Surveyed::Bad;
+        }
+        top = higher_end(mark, end_at(offsets, lengths, i), top);
+        i += 1;
+    }
+    if used < top {
+        return Surveyed::Bad;
+    }
+    Surveyed::Used(used)
+}
+
+// What a storing call makes of its path: an absent key needs a free slot, and its bytes beside the `used` ones.
+fn placed_by(found: Probed, used: usize, size: usize, length: usize) -> Placed
+    requires { ⌜ used ≤ size ⌝ }
+    ensures { λ r. ⌜ r ≡ placedBy used (leb length (size - used)) found ⌝ }
+{
+    match found {
+        Probed::Hit(slot, examined) => Placed::Hit(slot, examined),
+        Probed::Free(slot, examined) => {
+            if length <= size - used {
+                return Placed::Free(slot, examined, used);
+            }
+            Placed::Refused(Refusal::NoBytes)
+        }
+        Probed::Full(_) => Placed::Refused(Refusal::NoSlot),
+        Probed::Refused(refusal) => Placed::Refused(refusal),
+    }
+}
+
+// The plan of a call that stores a key: its tests in order, then what its path says.
+pub fn place(marks: &[u8], offsets: &[u16], lengths: &[u8], arena: &[u8], key: &[u8]) -> Placed
+    ensures { λ r. ⌜ r ≡ placing (spansOf (now (marks .entry)) (now (offsets .entry)) (now (lengths .entry)) (now (arena .entry))) (now (key .entry)) ⌝ }
+{
+    if fits(marks, offsets, lengths, arena) {
+        if may_keep(key) {
+            let found = survey(marks, offsets, lengths, arena);
+            match found {
+                Surveyed::Used(used) => {
+                    let home = slot_of_key(key, marks.len() as u64, 0) as usize;
+                    let path = walk_path(marks, offsets, lengths, arena, key, home);
+                    return placed_by(path, used, arena.len(), key.len());
+                }
+                Surveyed::Bad => return Placed::Refused(Refusal::Damaged),
+            }
+        }
+        return Placed::Refused(Refusal::LongKey);
+    }
+    Placed::Refused(Refusal::Sizes)
+}
+
+// What remove makes of its path.
+fn located_by(found: Probed, used: usize) -> Located
+    ensures { λ r. ⌜ r ≡ locatedBy used found ⌝ }
+{
+    match found {
+        Probed::Hit(slot, examined) => Located::Hit(slot, examined, used),
+        Probed::Free(_, examined) => Located::Absent(examined),
+        Probed::Full(examined) => Located::Absent(examined),
+        Probed::Refused(refusal) => Located::Refused(refusal),
+    }
+}
+
+// The plan of remove: its tests in order, then what its path says.
+pub fn locate(marks: &[u8], offsets: &[u16], lengths: &[u8], arena: &[u8], key: &[u8]) -> Located
+    ensures { λ r. ⌜ r ≡ locating (spansOf (now (marks .entry)) (now (offsets .entry)) (now (lengths .entry)) (now (arena .entry))) (now (key .entry)) ⌝ }
+{
+    if fits(marks, offsets, lengths, arena) {
+        if may_ask(key) {
+            let found = survey(marks, offsets, lengths, arena);
+            match found {
+                Surveyed::Used(used) => {
+                    let home = slot_of_key(key, marks.len() as u64, 0) as usize;
+                    let path = walk_path(marks, offsets, lengths, arena, key, home);
+                    return located_by(path, used);
+                }
+                Surveyed::Bad => return Located::Refused(Refusal::Damaged),
+            }
+        }
+        return Located::Refused(Refusal::LongKey);
+    }
+    Located::Refused(Refusal::Sizes)
 }

@@ -1,5 +1,6 @@
 -- `ints::next_live` meets its contract. The loop's invariant: the rest of the stretch gives the whole answer. The measure is what is left of it.
 use Prim.Native.Nat.{_-_}
+use mathlib.Core.Path.{refl}
 use denote.Ref.{now}
 use lib.ListN.{length, List·getD-eq-default}
 use borrow.Author.Needs.{needs}
@@ -26,10 +27,10 @@ shared-slice-read-here : tie.Need-shared-slice-read-here Inv-loop μ-loop
 shared-slice-read-here c = search needs
 
 returns-2 : tie.Need-returns-2 Inv-loop μ-loop
-returns-2 c = ahead-live (c .before .before .before .before .loop .inv) (c .before .before .before .loop-test .taken) (c .if2 .taken)
+returns-2 c = ahead-live (c .before .before .before .before .loop .inv) (c .before .before .before .loop-test .taken) refl (c .if2 .taken)
 
 returns-3 : tie.Need-returns-3 Inv-loop μ-loop
-returns-3 c = ahead-bad (c .before .before .before .before .before .loop .inv) (c .before .before .before .before .loop-test .taken) (c .if3 .taken)
+returns-3 c = ahead-bad (c .before .before .before .before .before .loop .inv) (c .before .before .before .before .loop-test .taken) refl (c .if3 .taken)
 
 add-i : tie.Need-add-i Inv-loop μ-loop
 add-i c = search needs
@@ -38,7 +39,7 @@ loop-less : tie.Need-loop-less Inv-loop μ-loop
 loop-less c = search needs
 
 loop-again : tie.Need-loop-again Inv-loop μ-loop
-loop-again c = ahead-on (c .before .before .before .before .before .loop .inv) (c .before .before .before .before .loop-test .taken) (c .if3 .left) (c .before .if2 .left)
+loop-again c = ahead-on (c .before .before .before .before .before .loop .inv) (c .before .before .before .before .loop-test .taken) refl (c .if3 .left) (c .before .if2 .left)
 
 returns-4 : tie.Need-returns-4 Inv-loop μ-loop
 returns-4 c = ahead-end (c .before .loop .inv) (c .loop-test .left)

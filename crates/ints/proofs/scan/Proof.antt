@@ -1,5 +1,6 @@
 -- `ints::scan` meets its contract. The loop's invariant: no damage so far, and so many live. The measure is what is left of the length.
 use Prim.Native.Nat.{_-_}
+use mathlib.Core.Path.{refl}
 use lib.ListN.{length}
 use borrow.Author.Needs.{needs}
 use Rattle.kinds.specs.Marks.{wordsOf}
@@ -22,7 +23,7 @@ shared-slice-read-mark c = search needs
 
 returns : tie.Need-returns Inv-loop μ-loop
 unfolding scanning
-returns c = scan-bad (c .before .before .before .loop .inv) (c .before .before .loop-test .taken) (c .if1 .taken)
+returns c = scan-bad (c .before .before .before .loop .inv) (c .before .before .loop-test .taken) refl (c .if1 .taken)
 
 count-mark-requires : tie.Need-count-mark-requires Inv-loop μ-loop
 count-mark-requires c κs = search needs
@@ -37,7 +38,7 @@ loop-less : tie.Need-loop-less Inv-loop μ-loop
 loop-less c = search needs
 
 loop-again : tie.Need-loop-again Inv-loop μ-loop
-loop-again c = scan-on (c .before .before .before .before .loop .inv) (c .before .before .before .loop-test .taken) (c .before .if1 .left) (c .count-mark .ensures)
+loop-again c = scan-on (c .before .before .before .before .loop .inv) (c .before .before .before .loop-test .taken) refl (c .before .if1 .left) (c .count-mark .ensures)
 
 returns-2 : tie.Need-returns-2 Inv-loop μ-loop
 unfolding scanning

@@ -1,0 +1,61 @@
+-- `spans::scan` meets its contract. The loop's invariant: no damage so far, and so many live. The measure is what is left of the length.
+use borrow.Author.Needs.{needs}
+use Prim.Native.Nat.{_-_}
+use lib.ListN.{length}
+use Rattle.kinds.proofs.Scanning.{counted-low, Scanning, scan-start, scan-bad, scan-on, scan-end}
+use Rattle.spans.specs.Memory.{spansOf}
+use Rattle.spans.specs.Marks.{markAt}
+use Rattle.spans.specs.Scanning.{scanning}
+use Rattle.spans.proofs.scan.Statement.{statement}
+use Rattle.spans.proofs.scan.Tie as tie
+
+abbrev Inv-loop : tie.InvT-loop
+Inv-loop marks offsets lengths arena live₀ i₀ live i = Scanning (markAt (spansOf marks offsets lengths arena)) (length marks) live i
+
+abbrev μ-loop : tie.MeasureT-loop
+μ-loop marks offsets lengths arena live₀ i₀ live i = length marks - i
+
+loop-holds : tie.Need-loop-holds Inv-loop μ-loop
+loop-holds c = scan-start _ _
+
+mark-at-requires : tie.Need-mark-at-requires Inv-loop μ-loop
+mark-at-requires c κs = search needs
+
+returns : tie.Need-returns Inv-loop μ-loop
+unfolding scanning
+returns c = scan-bad (c .before .before .before .loop .inv) (c .before .before .loop-test .taken) (c .before .mark-at .ensures) (c .if1 .taken)
+
+count-mark-requires : tie.Need-count-mark-requires Inv-loop μ-loop
+count-mark-requires c κs = search needs
+
+add-live : tie.Need-add-live Inv-loop μ-loop
+add-live c = let one = counted-low _ (c .count-mark .ensures) in search needs
+
+add-i : tie.Need-add-i Inv-loop μ-loop
+add-i c = search needs
+
+loop-less : tie.Need-loop-less Inv-loop μ-loop
+loop-less c = search needs
+
+loop-again : tie.Need-loop-again Inv-loop μ-loop
+loop-again c = scan-on (c .before .before .before .before .loop .inv) (c .before .before .before .loop-test .taken) (c .before .before .mark-at .ensures) (c .before .if1 .left) (c .count-mark .ensures)
+
+returns-2 : tie.Need-returns-2 Inv-loop μ-loop
+unfolding scanning
+returns-2 c = scan-end (c .before .loop .inv) (c .loop-test .left)
+
+pub scan-spec : {M : Type 1} → statement M
+scan-spec =
+    tie.close
+    (tie.spec
+    Inv-loop
+    μ-loop
+    loop-holds
+    mark-at-requires
+    returns
+    count-mark-requires
+    add-live
+    add-i
+    loop-less
+    loop-again
+    returns-2)

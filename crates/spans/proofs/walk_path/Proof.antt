@@ -1,0 +1,115 @@
+-- `spans::walk_path` meets its contract. The loop's invariant: the rest of the trail gives the path's answer. The measure is how many slots are left.
+use Prim.Native.Nat.{_-_}
+use mathlib.Core.Path.{_∙_}
+use lib.ListN.{length}
+use borrow.Author.Needs.{needs}
+use Rattle.kinds.proofs.Trail.{OnTrail, at-home, round, on-never, on-bad, on-same, on-on}
+use Rattle.spans.specs.Keys.{byteKeys}
+use Rattle.spans.specs.Memory.{spansOf, keyAt}
+use Rattle.spans.specs.Marks.{markAt}
+use Rattle.spans.specs.Probing.{sightAt, pathFrom}
+use Rattle.spans.proofs.Sights.{passed-shown}
+use Rattle.spans.proofs.walk_path.Statement.{statement}
+use Rattle.spans.proofs.walk_path.Tie as tie
+
+abbrev Inv-loop : tie.InvT-loop
+Inv-loop marks offsets lengths arena key home size slot₀ n₀ free₀ slot n free = OnTrail byteKeys (markAt (spansOf marks offsets lengths arena)) (keyAt (spansOf marks offsets lengths arena)) (length marks) key slot n free (pathFrom (spansOf marks offsets lengths arena) home key)
+
+abbrev μ-loop : tie.MeasureT-loop
+μ-loop marks offsets lengths arena key home size slot₀ n₀ free₀ slot n free = length marks - n
+
+loop-holds : tie.Need-loop-holds Inv-loop μ-loop
+unfolding pathFrom
+loop-holds c = at-home byteKeys _ _ _ _ _ (c .before .before .before .before .before .pre)
+
+ended-at-requires : tie.Need-ended-at-requires Inv-loop μ-loop
+ended-at-requires c κs = search needs
+
+look-requires : tie.Need-look-requires Inv-loop μ-loop
+look-requires c κs = search needs
+
+enum-told : tie.Need-enum-told Inv-loop μ-loop
+enum-told c = search needs
+
+first-free-requires : tie.Need-first-free-requires Inv-loop μ-loop
+first-free-requires c κs = search needs
+
+add-ended-at : tie.Need-add-ended-at Inv-loop μ-loop
+add-ended-at c = search needs
+
+ended-at-requires-2 : tie.Need-ended-at-requires-2 Inv-loop μ-loop
+ended-at-requires-2 c κs = search needs
+
+enum-told-2 : tie.Need-enum-told-2 Inv-loop μ-loop
+enum-told-2 c = search needs
+
+enum-told-3 : tie.Need-enum-told-3 Inv-loop μ-loop
+enum-told-3 c = search needs
+
+add-t17 : tie.Need-add-t17 Inv-loop μ-loop
+add-t17 c = search needs
+
+enum-told-4 : tie.Need-enum-told-4 Inv-loop μ-loop
+enum-told-4 c = search needs
+
+shared-slice-read-passed-free : tie.Need-shared-slice-read-passed-free Inv-loop μ-loop
+shared-slice-read-passed-free c = search needs
+
+passed-free-requires : tie.Need-passed-free-requires Inv-loop μ-loop
+passed-free-requires c κs = search needs
+
+next-slot-requires : tie.Need-next-slot-requires Inv-loop μ-loop
+next-slot-requires c κs = search needs
+
+add-n : tie.Need-add-n Inv-loop μ-loop
+add-n c = search needs
+
+loop-less : tie.Need-loop-less Inv-loop μ-loop
+loop-less c = search needs
+
+loop-again : tie.Need-loop-again Inv-loop μ-loop
+unfolding sightAt
+loop-again c = on-on (c .before .before .before .before .before .before .before .loop .inv) (search needs) (c .before .before .before .before .before .look .ensures) (c .before .before .before .enum-told4 .given .1) (passed-shown _ _ _ _ (c .before .passed-free .ensures)) (c .next-slot .ensures)
+
+returns : tie.Need-returns Inv-loop μ-loop
+returns c = round (c .before .before .loop .inv) (c .before .if1 .taken) (c .ended-at .ensures)
+
+returns-2 : tie.Need-returns-2 Inv-loop μ-loop
+unfolding sightAt
+returns-2 c = on-never (c .before .before .before .before .before .before .loop .inv) (search needs) (c .before .before .before .before .look .ensures) (c .before .before .enum-told .given .1) (c .before .first-free .ensures) (c .ended-at2 .ensures)
+
+returns-3 : tie.Need-returns-3 Inv-loop μ-loop
+unfolding sightAt
+returns-3 c = on-bad (c .before .before .before .before .loop .inv) (search needs) (c .before .before .look .ensures) (c .enum-told2 .given .1)
+
+returns-4 : tie.Need-returns-4 Inv-loop μ-loop
+unfolding sightAt
+returns-4 c = on-same (c .before .before .before .before .loop .inv) (search needs) (c .before .before .look .ensures) (c .enum-told3 .given .1)
+
+pub walk-path-spec : {M : Type 1} → statement M
+walk-path-spec =
+    tie.close
+    (tie.spec
+    Inv-loop
+    μ-loop
+    loop-holds
+    ended-at-requires
+    look-requires
+    enum-told
+    first-free-requires
+    add-ended-at
+    ended-at-requires-2
+    enum-told-2
+    enum-told-3
+    add-t17
+    enum-told-4
+    shared-slice-read-passed-free
+    passed-free-requires
+    next-slot-requires
+    add-n
+    loop-less
+    loop-again
+    returns
+    returns-2
+    returns-3
+    returns-4)
