@@ -1,4 +1,4 @@
--- The lent lists after each change, as one.
+-- The lent lists after each change, as one record.
 use Prim.Native.Nat.{ℕ, _+_}
 use mathlib.Core.List.{List}
 use mathlib.Core.Path.{_≡_}

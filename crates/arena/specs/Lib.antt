@@ -1,2 +1,2 @@
 -- The definitions of the changes of a byte table.
-pub mod Ready
+pub mod Needs

@@ -3,7 +3,7 @@ ghost use mathlib.Core.Path.{_≡_};
 ghost use Prim.Native.Nat.{_+_, _≤_};
 ghost use lib.ListN.{length};
 ghost use Rattle.spans.specs.Memory.{part, pasted, closed, fall, fallen, filled, emptied, wiped, spansOf};
-ghost use Rattle.arena.specs.Ready.{Fillable, Freeable};
+ghost use Rattle.arena.specs.Needs.{Fillable, Freeable};
 use arrays::clear_bytes;
 use arrays::clear_shorts;
 use arrays::copy_bytes;

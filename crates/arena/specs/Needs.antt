@@ -7,22 +7,22 @@ use Rattle.digest.specs.Home.{keyLimit}
 use Rattle.spans.specs.Memory.{Spans, arenaLimit, endAt, usedOf}
 
 -- One of the slots, in lists that agree.
-pub record Inside (s : Spans) (i : ℕ) : Type 0 where
+pub record Aligned (s : Spans) (i : ℕ) : Type 0 where
   pub slot : i < length (s .marks)
   pub offsets : length (s .offsets) ≡ length (s .marks)
   pub lengths : length (s .lengths) ≡ length (s .marks)
 
 -- The key has room behind the u used bytes.
 pub record Fillable (s : Spans) (i u : ℕ) (k : List ℕ) : Type 0 where
-  pub inside : Inside s i
+  pub aligned : Aligned s i
   pub used : u ≡ usedOf s
   pub room : u + length k ≤ length (s .arena)
-  pub short : length k ≤ keyLimit
-  pub arena : length (s .arena) ≤ arenaLimit
+  pub key : length k ≤ keyLimit
+  pub size : length (s .arena) ≤ arenaLimit
 
 -- The slot's span ends among the u used bytes, and these are bytes of the arena.
 pub record Freeable (s : Spans) (i u : ℕ) : Type 0 where
-  pub inside : Inside s i
+  pub aligned : Aligned s i
   pub used : u ≡ usedOf s
-  pub below : endAt s i ≤ u
+  pub ends : endAt s i ≤ u
   pub within : u ≤ length (s .arena)
