@@ -2,3 +2,4 @@
 pub mod Falling
 pub mod Lent
 pub mod Lists
+pub mod Plans
