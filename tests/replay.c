@@ -264,11 +264,11 @@ static moss_answer set_insert(const struct order *o) { return moss_int_set_inser
 static moss_answer set_step(const struct order *o) { return moss_int_set_step(INT_SET(o->table), o->walk, o->budget); }
 static moss_answer set_copy(const struct order *o) { return moss_int_set_copy(INT_SET(o->table), INT_SET(o->other)); }
 
-/* The slot that an integer table's get answers holds the key. */
+/* The slot that an integer table's get answers is live and holds the key. */
 static void holds_key(const struct order *o, const moss_answer *answer)
 {
-    const struct array *keys = &o->table->columns[1];
-    if (answer->slot >= keys->count || element(keys, 8, answer->slot) != o->key)
+    const struct array *marks = &o->table->columns[0], *keys = &o->table->columns[1];
+    if (answer->slot >= keys->count || element(marks, 1, answer->slot) != 1 || element(keys, 8, answer->slot) != o->key)
         stop(WRONG, "slot");
 }
 
