@@ -1,3 +1,4 @@
 -- The three demands for each kind.
 pub mod IntMap
 pub mod IntSet
+pub mod ByteSet

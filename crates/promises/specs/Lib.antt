@@ -1,3 +1,4 @@
 -- The published calls of each kind.
 pub mod IntMap
 pub mod IntSet
+pub mod ByteSet

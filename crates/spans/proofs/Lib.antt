@@ -13,3 +13,4 @@ pub mod Plans
 pub mod Sights
 pub mod Sizes
 pub mod Surveys
+pub mod Keys

@@ -1,0 +1,95 @@
+-- The three demands for byte set, over its published calls.
+use Prim.Native.Nat.{ℕ}
+use mathlib.Core.Bool.{true, false}
+use mathlib.Core.List.{List}
+use mathlib.Core.Option.{none}
+use mathlib.Core.Path.{_≡_, refl, sym, _∙_}
+use lib.Dec.{eqb}
+use Rattle.model.specs.Calls.{need}
+use Rattle.model.specs.Machine.{fine, number, truth, seen, spot, value, paced, tells, leaves, answer, left, stepping, World}
+use Rattle.model.specs.Lawful.{Lawful, Steady}
+use Rattle.model.specs.Demand1.{Least, rows, refusal}
+use Rattle.model.specs.Demand2.{InStep}
+use Rattle.model.specs.Demand3.{Walked, stepped}
+use Rattle.model.specs.Tables.{tables, AllSound}
+use Rattle.model.specs.Places.{names}
+use Rattle.model.proofs.Tables.{walk-kept}
+use Rattle.answers.proofs.Said.{containedSaid-refusal, countSaid-refusal, doneSaid-refusal, droppedSaid-refusal, joinedSaid-refusal, emptySaid-refusal, spannedSaid-refusal, roomSaid-refusal, stepSaid-refusal}
+use Rattle.kinds.specs.Columns.{nothing}
+use Rattle.kinds.specs.Published.{Linked, meantAll}
+use Rattle.kinds.proofs.Columns.{nothing-orderly}
+use Rattle.kinds.proofs.Published.{reported, lowest-told, refused-same, named-only, run-in-step}
+use Rattle.spans.specs.Kinds.{sets, joinOf, spanOf, setStepOf}
+use Rattle.spans.specs.Places.{Place, wordIn, places}
+use Rattle.spans.proofs.Keys.{asked-bar, kept-bar}
+use Rattle.spans.proofs.Lawful.{strings-lawful}
+use Rattle.spans.proofs.Places.{strings-steady, strings-apart}
+use Rattle.spans.specs.Sound.{offsetAt, lengthAt}
+use Rattle.answers.specs.Said.{spanOnlyHanded}
+use Rattle.kinds.specs.Calls.{makeOf, capacityOf, lenOf, isEmptyOf, reserveOf, containsOf, copyOf, droppedOf}
+use Rattle.promises.specs.ByteSet.{Call, make, clear, capacity, len, is-empty, reserve, get, contains, insert, remove, copy, step, told-by, meant, published}
+
+-- Byte sets are a lawful store.
+pub sets-lawful : Lawful sets
+sets-lawful = strings-lawful nothing nothing-orderly
+
+-- Each published call tells the refusal of the theory's call.
+number-told : (w : World sets) (x : ℕ) (c : Call) → told-by w x c .numbers .refusal ≡ refusal (answer sets w x (meant w x c))
+unfolding told-by meant answer tells left leaves makeOf capacityOf lenOf isEmptyOf reserveOf containsOf copyOf droppedOf joinOf spanOf setStepOf refusal
+number-told w x make = doneSaid-refusal _ ∙ sym (reported (λ n. fine) (λ a. refl) _)
+number-told w x clear = doneSaid-refusal _ ∙ sym (reported (λ n. fine) (λ a. refl) _)
+number-told w x capacity = countSaid-refusal _ ∙ sym (reported number (λ a. refl) _)
+number-told w x len = countSaid-refusal _ ∙ sym (reported number (λ a. refl) _)
+number-told w x is-empty = emptySaid-refusal _ ∙ sym (reported (λ n. truth (eqb n 0)) (λ a. refl) _)
+number-told w x (reserve n) = roomSaid-refusal _ ∙ sym (reported (λ u. fine) (λ a. refl) _)
+number-told w x (get k) = spannedSaid-refusal (offsetAt (w x .spans)) (lengthAt (w x .spans)) _ ∙ sym (reported seen (λ a. refl) _)
+number-told w x (contains k) = containedSaid-refusal _ ∙ sym (reported seen (λ a. refl) _)
+number-told w x (insert k) = joinedSaid-refusal _ _ ∙ sym (reported spot (λ a. refl) _)
+number-told w x (remove k) = droppedSaid-refusal _ ∙ sym (reported seen (λ a. refl) _)
+number-told w x (copy y) = doneSaid-refusal _ ∙ sym (reported (λ u. fine) (λ a. refl) _)
+number-told w x (step at budget) = stepSaid-refusal (spanOnlyHanded (offsetAt (w x .spans)) (lengthAt (w x .spans))) (λ k v p e. refl) at _ ∙ sym (reported paced (λ a. refl) _)
+
+-- And leaves its memory.
+memory-told : (w : World sets) (x : ℕ) (c : Call) → told-by w x c .memory ≡ left sets w x (meant w x c)
+unfolding told-by meant answer tells left leaves makeOf capacityOf lenOf isEmptyOf reserveOf containsOf copyOf droppedOf joinOf spanOf setStepOf
+memory-told w x make = refl
+memory-told w x clear = refl
+memory-told w x capacity = refl
+memory-told w x len = refl
+memory-told w x is-empty = refl
+memory-told w x (reserve n) = refl
+memory-told w x (get k) = refl
+memory-told w x (contains k) = refl
+memory-told w x (insert k) = refl
+memory-told w x (remove k) = refl
+memory-told w x (copy y) = refl
+memory-told w x (step at budget) = refl
+
+-- The published calls are the theory's.
+pub sets-linked : Linked sets published
+sets-linked = record { number = number-told; memory = memory-told }
+
+-- Demand 1: on any memory each call tells the lowest refusal that applies by the scope's table, and 0 where none does.
+pub demand-1 : (w : World sets) (x : ℕ) (c : Call) → Least (rows sets w x (meant w x c)) (told-by w x c .numbers .refusal)
+demand-1 w x c = lowest-told sets published sets-linked asked-bar kept-bar (sets-lawful .homes) w x c
+
+-- A refused call leaves every lent place as it was.
+pub demand-1-still : (w : World sets) (x : ℕ) (c : Call) → (told-by w x c .numbers .refusal ≡ 0 → ⊥) → told-by w x c .memory ≡ w x
+demand-1-still w x c h = refused-same sets published sets-linked w x c h
+
+-- An accepted call changes no lent place that its rule does not name.
+pub demand-1-named : (w : World sets) (x : ℕ) (c : Call) (p : Place) → names sets (places nothing) p w x (meant w x c) ≡ false → wordIn nothing (told-by w x c .memory) p ≡ wordIn nothing (w x) p
+demand-1-named w x c p e = named-only sets published sets-linked (strings-steady nothing nothing-orderly) (places nothing) (strings-apart nothing nothing-orderly) w x c p e
+
+-- Demand 2: any list of published calls over any number of tables, on any memory, runs in step with finite sets from each table's make on.
+pub demand-2 : (cs : List (ℕ × Call)) (w : World sets) → InStep sets sets-lawful (meantAll sets published w cs) w (λ y. none)
+demand-2 cs w = run-in-step sets published sets-linked sets-lawful cs w
+
+-- Demand 3: a walk of a table, stepped with any calls in between, keeps its promises.
+pub demand-3 : (x S : ℕ) (w : World sets) → AllSound sets sets-lawful x S w → Walked (tables sets x S) w
+demand-3 x S w f = walk-kept sets sets-lawful x S w f
+
+-- The steps of demand 3 are those that `step` answers.
+pub demand-3-steps : (x S : ℕ) (w : World sets) → AllSound sets sets-lawful x S w → (at budget : ℕ) → stepping sets (w x) at budget ≡ stepped (tables sets x S) w tt at budget
+unfolding stepping stepped need
+demand-3-steps x S w f at budget = rw (f .healthy x .sized, f .sized)
