@@ -1,0 +1,1 @@
+-- The definitions of byte sets.
