@@ -6,14 +6,39 @@ ghost use Rattle.kinds.specs.Told.{told};
 ghost use Rattle.spans.specs.Kinds.{sets, setMemory, joinOf, spanOf};
 use answers::Contained;
 use answers::Counted;
+use answers::Dropped;
 use answers::Emptiness;
+use answers::Joined;
+use answers::Outcome;
 use answers::Refusal;
 use answers::Reserved;
 use answers::Spanned;
+use arrays::copy_bytes;
+use arrays::copy_shorts;
 use kinds::Probed;
 use kinds::Scanned;
+use spans::Located;
+use spans::Placed;
 use spans::len_at;
 use spans::offset_at;
+
+// Makes an empty set of the lent arrays.
+pub fn make(marks: &mut [u8], offsets: &mut [u16], lengths: &mut [u8], arena: &mut [u8]) -> Outcome
+    ensures { λ r. ⌜ told (outcomeNumbers r) (setMemory (now (marks .exit)) (now (offsets .exit)) (now (lengths .exit)) (now (arena .exit))) ≡ makeOf sets (setMemory (now (marks .entry)) (now (offsets .entry)) (now (lengths .entry)) (now (arena .entry))) ⌝ }
+{
+    if spans::fits(marks, offsets, lengths, arena) {
+        arena::wipe(marks, offsets, lengths, arena);
+        return Outcome::Done;
+    }
+    Outcome::Refused(Refusal::Sizes)
+}
+
+// Empties a set: every slot becomes never used, every arena byte 0.
+pub fn clear(marks: &mut [u8], offsets: &mut [u16], lengths: &mut [u8], arena: &mut [u8]) -> Outcome
+    ensures { λ r. ⌜ told (outcomeNumbers r) (setMemory (now (marks .exit)) (now (offsets .exit)) (now (lengths .exit)) (now (arena .exit))) ≡ makeOf sets (setMemory (now (marks .entry)) (now (offsets .entry)) (now (lengths .entry)) (now (arena .entry))) ⌝ }
+{
+    make(marks, offsets, lengths, arena)
+}
 
 // The number of slots.
 pub fn capacity(marks: &[u8], offsets: &[u16], lengths: &[u8], arena: &[u8]) -> Counted
@@ -99,4 +124,75 @@ pub fn contains(marks: &[u8], offsets: &[u16], lengths: &[u8], arena: &[u8], key
         Probed::Full(examined) => Contained::Absent(examined),
         Probed::Refused(r) => Contained::Refused(r),
     }
+}
+
+// Puts a key in: the first free slot of its path takes it, its bytes go behind the used ones; one that is there already stores nothing.
+pub fn insert(
+    marks: &mut [u8],
+    offsets: &mut [u16],
+    lengths: &mut [u8],
+    arena: &mut [u8],
+    key: &[u8],
+) -> Joined
+    ensures { λ r. ⌜ told (joinedNumbers r) (setMemory (now (marks .exit)) (now (offsets .exit)) (now (lengths .exit)) (now (arena .exit))) ≡ joinOf (setMemory (now (marks .entry)) (now (offsets .entry)) (now (lengths .entry)) (now (arena .entry))) (now (key .entry)) ⌝ }
+{
+    let plan = spans::place(marks, offsets, lengths, arena, key);
+    match plan {
+        Placed::Hit(slot, examined) => Joined::Already(slot, examined),
+        Placed::Free(slot, examined, used) => {
+            arena::fill(marks, offsets, lengths, arena, slot, used, key);
+            Joined::Fresh(slot, used, examined)
+        }
+        Placed::Refused(r) => Joined::Refused(r),
+    }
+}
+
+// Takes a key out: its slot is freed, and the gap in the arena closed.
+pub fn remove(
+    marks: &mut [u8],
+    offsets: &mut [u16],
+    lengths: &mut [u8],
+    arena: &mut [u8],
+    key: &[u8],
+) -> Dropped
+    ensures { λ r. ⌜ told (droppedNumbers r) (setMemory (now (marks .exit)) (now (offsets .exit)) (now (lengths .exit)) (now (arena .exit))) ≡ droppedOf sets (setMemory (now (marks .entry)) (now (offsets .entry)) (now (lengths .entry)) (now (arena .entry))) (now (key .entry)) ⌝ }
+{
+    let plan = spans::locate(marks, offsets, lengths, arena, key);
+    match plan {
+        Located::Hit(slot, examined, used) => {
+            arena::free(marks, offsets, lengths, arena, slot, used);
+            Dropped::Removed(slot, examined)
+        }
+        Located::Absent(examined) => Dropped::Absent(examined),
+        Located::Refused(r) => Dropped::Refused(r),
+    }
+}
+
+// Makes a set equal to another of equal sizes, in every slot and byte.
+pub fn copy(
+    to_marks: &mut [u8],
+    to_offsets: &mut [u16],
+    to_lengths: &mut [u8],
+    to_arena: &mut [u8],
+    marks: &[u8],
+    offsets: &[u16],
+    lengths: &[u8],
+    arena: &[u8],
+) -> Outcome
+    ensures { λ r. ⌜ told (outcomeNumbers r) (setMemory (now («to_marks» .exit)) (now («to_offsets» .exit)) (now («to_lengths» .exit)) (now («to_arena» .exit))) ≡ copyOf sets (setMemory (now («to_marks» .entry)) (now («to_offsets» .entry)) (now («to_lengths» .entry)) (now («to_arena» .entry))) (setMemory (now (marks .entry)) (now (offsets .entry)) (now (lengths .entry)) (now (arena .entry))) ⌝ }
+{
+    if spans::fits(to_marks, to_offsets, to_lengths, to_arena) {
+        if spans::fits(marks, offsets, lengths, arena) {
+            if to_marks.len() == marks.len() {
+                if to_arena.len() == arena.len() {
+                    copy_bytes(to_marks, marks);
+                    copy_shorts(to_offsets, offsets);
+                    copy_bytes(to_lengths, lengths);
+                    copy_bytes(to_arena, arena);
+                    return Outcome::Done;
+                }
+            }
+        }
+    }
+    Outcome::Refused(Refusal::Sizes)
 }
