@@ -1,1 +1,2 @@
 -- The definitions of byte sets.
+pub mod Numbers

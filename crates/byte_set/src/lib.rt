@@ -1,9 +1,13 @@
 // The byte set: byte keys in lent slot arrays and an arena, and its walk. Each contract is one equation with a definition of specs/.
 ghost use mathlib.Core.Path.{_≡_};
+ghost use Prim.Native.Nat.{_+_, _≤_};
+ghost use lib.ListN.{length};
+ghost use Rattle.model.specs.Walk.{reachOf};
 ghost use Rattle.answers.specs.Numbers.{outcomeNumbers, countedNumbers, emptinessNumbers, reservedNumbers, spannedNumbers, containedNumbers, joinedNumbers, droppedNumbers};
 ghost use Rattle.kinds.specs.Calls.{makeOf, capacityOf, lenOf, isEmptyOf, reserveOf, containsOf, copyOf, droppedOf};
 ghost use Rattle.kinds.specs.Told.{told};
-ghost use Rattle.spans.specs.Kinds.{sets, setMemory, joinOf, spanOf};
+ghost use Rattle.spans.specs.Kinds.{sets, setMemory, joinOf, spanOf, setPaceOf, setStepOf};
+ghost use Rattle.byte_set.specs.Numbers.{refusedNumbers, stepNumbers};
 use answers::Contained;
 use answers::Counted;
 use answers::Dropped;
@@ -15,6 +19,7 @@ use answers::Reserved;
 use answers::Spanned;
 use arrays::copy_bytes;
 use arrays::copy_shorts;
+use kinds::Next;
 use kinds::Probed;
 use kinds::Scanned;
 use spans::Located;
@@ -114,7 +119,13 @@ pub fn get(marks: &[u8], offsets: &[u16], lengths: &[u8], arena: &[u8], key: &[u
 }
 
 // Whether a key is there, with the examined number.
-pub fn contains(marks: &[u8], offsets: &[u16], lengths: &[u8], arena: &[u8], key: &[u8]) -> Contained
+pub fn contains(
+    marks: &[u8],
+    offsets: &[u16],
+    lengths: &[u8],
+    arena: &[u8],
+    key: &[u8],
+) -> Contained
     ensures { λ r. ⌜ containedNumbers r ≡ containsOf sets (setMemory (now (marks .entry)) (now (offsets .entry)) (now (lengths .entry)) (now (arena .entry))) (now (key .entry)) ⌝ }
 {
     let seen = spans::probe(marks, offsets, lengths, arena, key);
@@ -195,4 +206,119 @@ pub fn copy(
         }
     }
     Outcome::Refused(Refusal::Sizes)
+}
+
+// A walk of a set is the slot where it stands.
+pub struct Walk {
+    pub at: usize,
+}
+
+// What a step of a walk hands out: a key's offset and length, nothing, or that the walk is done; or a refusal.
+pub enum Paced {
+    Member(usize, usize),
+    Nothing,
+    Done,
+    Refused(Refusal),
+}
+
+// The answer of a step: the walk moved on, what it hands out, and the examined number.
+pub struct Step {
+    pub walk: Walk,
+    pub out: Paced,
+    pub examined: usize,
+}
+
+// A refused step: the walk as it came, and 0 examined.
+fn refused(at: usize, why: Refusal) -> Step
+    ensures { λ r. ⌜ stepNumbers r ≡ refusedNumbers at why ⌝ }
+{
+    Step {
+        walk: Walk { at },
+        out: Paced::Refused(why),
+        examined: 0,
+    }
+}
+
+// How many slots a step may look at: its budget, and no more than there are from here.
+fn reach(size: usize, at: usize, budget: u64) -> usize
+    requires { ⌜ at ≤ size ⌝ }
+    ensures { λ r. ⌜ r ≡ reachOf size at budget ⌝ }
+{
+    if budget <= (size - at) as u64 {
+        return budget as usize;
+    }
+    size - at
+}
+
+// The slots of a step: up to the first live one, within so many.
+fn pace(
+    marks: &[u8],
+    offsets: &[u16],
+    lengths: &[u8],
+    arena: &[u8],
+    at: usize,
+    slots: usize,
+) -> Step
+    requires { ⌜ at + slots ≤ length (now marks) ⌝ }
+    ensures { λ r. ⌜ stepNumbers r ≡ setPaceOf (setMemory (now (marks .entry)) (now (offsets .entry)) (now (lengths .entry)) (now (arena .entry))) at slots ⌝ }
+{
+    let next = spans::next_live(marks, offsets, lengths, arena, at, at + slots);
+    match next {
+        Next::Live(slot) => {
+            let offset = offset_at(offsets, slot) as usize;
+            let length = len_at(lengths, slot) as usize;
+            Step {
+                walk: Walk { at: slot + 1 },
+                out: Paced::Member(offset, length),
+                examined: slot + 1 - at,
+            }
+        }
+        Next::Bad => refused(at, Refusal::Damaged),
+        Next::Nothing => Step {
+            walk: Walk { at: at + slots },
+            out: Paced::Nothing,
+            examined: slots,
+        },
+    }
+}
+
+impl Walk {
+    // A walk starts at slot 0.
+    pub fn start() -> Walk
+        ensures { λ r. ⌜ r .at ≡ 0 ⌝ }
+    {
+        Walk { at: 0 }
+    }
+
+    // One step with a budget of slots: the key of the first live slot within it, nothing, or done.
+    pub fn step(
+        self,
+        marks: &[u8],
+        offsets: &[u16],
+        lengths: &[u8],
+        arena: &[u8],
+        budget: u64,
+    ) -> Step
+        ensures { λ r. ⌜ stepNumbers r ≡ setStepOf (setMemory (now (marks .entry)) (now (offsets .entry)) (now (lengths .entry)) (now (arena .entry))) (self .at) budget ⌝ }
+    {
+        let at = self.at;
+        if spans::fits(marks, offsets, lengths, arena) {
+            if budget == 0 {
+                return refused(at, Refusal::NoBudget);
+            }
+            if marks.len() < at {
+                return refused(at, Refusal::WalkBeyond);
+            }
+            if at == marks.len() {
+                return Step {
+                    walk: Walk { at },
+                    out: Paced::Done,
+                    examined: 0,
+                };
+            }
+            let slots = reach(marks.len(), at, budget);
+            return pace(marks, offsets, lengths, arena, at, slots);
+        }
+        refused(at, Refusal::Sizes)
+    }
 }
