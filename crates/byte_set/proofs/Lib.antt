@@ -1,0 +1,6 @@
+-- The laws of byte sets.
+pub mod Counts
+pub mod Laws
+pub mod Steps
+pub mod Equal
+pub mod Settled

@@ -1,0 +1,2 @@
+-- The definitions of byte sets.
+pub mod Numbers
