@@ -52,7 +52,7 @@ module _ {K W : Type 0} (M : Store K W) (m : M .State) where
 
   -- by the test of the sizes
   module _ {b : Bool} (p : b ≡ sizedOf M m) where
-    sized-as : {t : Bool} → b ≡ t → M .sized m ≡ t
+    pub sized-as : {t : Bool} → b ≡ t → M .sized m ≡ t
     unfolding sizedOf
     sized-as q = sym p ∙ q
 

@@ -132,7 +132,7 @@ unfolding copied
 copied-whole to from e p = p ∙ (rw (eq-eqb (length to) (length from) e))
 
 -- right sizes: as many offsets, lengths and values as marks
-same-long : (m : Strings values) {b : Bool} → b ≡ sizedOf maps m → b ≡ true → (length (m .spans .offsets) ≡ length (m .spans .marks)) × (length (m .spans .lengths) ≡ length (m .spans .marks)) × (length (m .words) ≡ length (m .spans .marks))
+pub same-long : (m : Strings values) {b : Bool} → b ≡ sizedOf maps m → b ≡ true → (length (m .spans .offsets) ≡ length (m .spans .marks)) × (length (m .spans .lengths) ≡ length (m .spans .marks)) × (length (m .words) ≡ length (m .spans .marks))
 unfolding sizedOf
 same-long m p q =
     let (f, l) = both (fitting (m .spans)) (eqb (length (m .spans .marks)) (length (m .words))) (sym p ∙ q) in
