@@ -1,0 +1,155 @@
+-- What the tests and callees of make, capacity, len, is_empty, reserve and copy say of their definitions, at any store.
+use Prim.Native.Nat.{ℕ, _-_, _≤_, _<_}
+use mathlib.Core.Bool.{Bool, true, false}
+use mathlib.Core.Path.{_≡_, sym, _∙_, ap}
+use native.Mathlib.Omega.{arith}
+use borrow.Author.Tests.{eq-eqb, ne-eqb, le-leb, lt-leb}
+use Rattle.model.specs.Calls.{Or, no, ok, need, acted, capacity, after-make, length, reserve, copy, after-copy}
+use Rattle.model.specs.Store.{Store, live-count, hurtful}
+use Rattle.model.proofs.Cases.{by-bool}
+use Rattle.model.proofs.Slots.{count-high}
+use Rattle.answers.specs.declared.Refusal.{Refusal}
+use Rattle.answers.specs.declared.Refusal.the-variants.{Sizes, Damaged, NoSlot}
+use Rattle.answers.specs.declared.Outcome.the-variants as outcome
+use Rattle.answers.specs.declared.Counted.{Counted}
+use Rattle.answers.specs.declared.Counted.the-variants as counted
+use Rattle.answers.specs.declared.Emptiness.the-variants as emptiness
+use Rattle.answers.specs.declared.Reserved.the-variants as reserved
+use Rattle.answers.specs.Refusals.{numberOf}
+use Rattle.answers.specs.Numbers.{outcomeNumbers, countedNumbers, emptinessNumbers, reservedNumbers}
+use Rattle.answers.specs.Said.{doneSaid, countSaid, emptySaid, roomSaid}
+use Rattle.kinds.specs.Told.{told}
+use Rattle.kinds.specs.Calls.{makeOf, capacityOf, lenOf, isEmptyOf, reserveOf, copyOf}
+use Rattle.byte_map.specs.Seeking.{sizedOf}
+
+-- what a length says where it was counted, and where it was refused
+count-ok : (x : Or ℕ) (n : ℕ) → countedNumbers (counted.Count n) ≡ countSaid x → x ≡ ok n
+unfolding countedNumbers countSaid
+count-ok (no i) n e = let z : ⊥ = omega (arith, ap (λ a. a .case) e) in absurd z
+count-ok (ok y) n e = ap ok (sym (ap (λ a. a .value) e))
+
+count-no : (x : Or ℕ) (r : Refusal) → countedNumbers (counted.Refused r) ≡ countSaid x → x ≡ no (numberOf r)
+unfolding countedNumbers countSaid
+count-no (no i) r e = ap no (sym (ap (λ a. a .refusal) e))
+count-no (ok y) r e = let z : ⊥ = omega (arith, ap (λ a. a .case) e) in absurd z
+
+module _ {K W : Type 0} (M : Store K W) (m : M .State) where
+  length-ok : {n : ℕ} → length M m ≡ ok n → (M .sized m ≡ true) × (hurtful M m ≡ false) × (live-count M m ≡ n)
+  unfolding length need
+  length-ok e = by-bool (M .sized m)
+      (λ s. by-bool (hurtful M m)
+      (λ h. let z : _≡_ {A = ℕ} 0 1 = cc (rw (s, h) at e) in absurd (omega arith))
+      (λ h. (s, h, cc (rw (s, h) at e))))
+      (λ s. let z : _≡_ {A = ℕ} 0 1 = cc (rw s at e) in absurd (omega arith))
+
+  reserve-no : (asked : ℕ) {i : ℕ} → length M m ≡ no i → reserve M m asked ≡ no i
+  unfolding length reserve need
+  reserve-no asked e = by-bool (M .sized m)
+      (λ s. by-bool (hurtful M m)
+      (λ h. rw (s, h) (cc (rw (s, h) at e)))
+      (λ h. let z : _≡_ {A = ℕ} 0 1 = cc (rw (s, h) at e) in absurd (omega arith)))
+      (λ s. rw s (cc (rw s at e)))
+
+  -- by the test of the sizes
+  module _ {b : Bool} (p : b ≡ sizedOf M m) where
+    pub sized-as : {t : Bool} → b ≡ t → M .sized m ≡ t
+    unfolding sizedOf
+    sized-as q = sym p ∙ q
+
+    -- make and clear
+    pub make-done : b ≡ true → {x : M .State} → x ≡ M .wipe m → told (outcomeNumbers outcome.Done) x ≡ makeOf M m
+    unfolding makeOf capacity after-make acted need doneSaid outcomeNumbers
+    make-done q e = rw (sized-as q, e)
+
+    pub make-not : b ≡ false → told (outcomeNumbers (outcome.Refused Sizes)) m ≡ makeOf M m
+    unfolding makeOf capacity after-make acted need doneSaid outcomeNumbers
+    make-not q = rw (sized-as q)
+
+    -- capacity
+    pub capacity-done : b ≡ true → countedNumbers (counted.Count (M .size m)) ≡ capacityOf M m
+    unfolding capacityOf capacity need countSaid countedNumbers
+    capacity-done q = rw (sized-as q)
+
+    pub capacity-not : b ≡ false → countedNumbers (counted.Refused Sizes) ≡ capacityOf M m
+    unfolding capacityOf capacity need countSaid countedNumbers
+    capacity-not q = rw (sized-as q)
+
+    -- len
+    pub len-live : b ≡ true → {n : ℕ} → hurtful M m ≡ false → live-count M m ≡ n → countedNumbers (counted.Count n) ≡ lenOf M m
+    unfolding lenOf length need countSaid countedNumbers
+    len-live q h l = rw (sized-as q, h, l)
+
+    pub len-bad : b ≡ true → hurtful M m ≡ true → countedNumbers (counted.Refused Damaged) ≡ lenOf M m
+    unfolding lenOf length need countSaid countedNumbers
+    len-bad q h = rw (sized-as q, h)
+
+    pub len-not : b ≡ false → countedNumbers (counted.Refused Sizes) ≡ lenOf M m
+    unfolding lenOf length need countSaid countedNumbers
+    len-not q = rw (sized-as q)
+
+  -- by the answer of len
+  module _ {r : Counted} (p : countedNumbers r ≡ lenOf M m) where
+    counted-ok : {n : ℕ} → r ≡ counted.Count n → length M m ≡ ok n
+    unfolding lenOf
+    counted-ok {n} q = count-ok (length M m) n (rw q at p)
+
+    counted-no : {x : Refusal} → r ≡ counted.Refused x → length M m ≡ no (numberOf x)
+    unfolding lenOf
+    counted-no {x} q = count-no (length M m) x (rw q at p)
+
+    sound-count : {n : ℕ} → r ≡ counted.Count n → (M .sized m ≡ true) × (hurtful M m ≡ false) × (live-count M m ≡ n)
+    sound-count q = length-ok (counted-ok q)
+
+    -- is_empty
+    pub empty-none : {n : ℕ} → r ≡ counted.Count n → n ≡ 0 → emptinessNumbers emptiness.Empty ≡ isEmptyOf M m
+    unfolding isEmptyOf emptySaid emptinessNumbers
+    empty-none q e = rw (counted-ok q, e)
+
+    pub empty-some : {n : ℕ} → r ≡ counted.Count n → (n ≡ 0 → ⊥) → emptinessNumbers emptiness.Holds ≡ isEmptyOf M m
+    unfolding isEmptyOf emptySaid emptinessNumbers
+    empty-some {n} q h = rw (counted-ok q, ne-eqb n 0 h)
+
+    pub empty-not : {x : Refusal} → r ≡ counted.Refused x → emptinessNumbers (emptiness.Refused x) ≡ isEmptyOf M m
+    unfolding isEmptyOf emptySaid emptinessNumbers
+    empty-not q = rw (counted-no q)
+
+    -- reserve
+    pub count-within : {n : ℕ} → r ≡ counted.Count n → n ≤ M .size m
+    unfolding live-count
+    count-within q = let (a, b, l) = sound-count q in omega (arith, count-high (M .slots m) (M .size m))
+
+    pub reserve-room : {n asked : ℕ} → r ≡ counted.Count n → asked ≤ M .size m - n → reservedNumbers reserved.Room ≡ reserveOf M m asked
+    unfolding reserveOf reserve need roomSaid reservedNumbers
+    reserve-room {n} {asked} q l = let (a, b, e) = sound-count q in rw (a, b, e, le-leb asked (M .size m - n) l)
+
+    pub reserve-none : {n asked : ℕ} → r ≡ counted.Count n → M .size m - n < asked → reservedNumbers (reserved.Refused NoSlot) ≡ reserveOf M m asked
+    unfolding reserveOf reserve need roomSaid reservedNumbers
+    reserve-none {n} {asked} q l = let (a, b, e) = sound-count q in rw (a, b, e, lt-leb asked (M .size m - n) l)
+
+    pub reserve-not : (asked : ℕ) {x : Refusal} → r ≡ counted.Refused x → reservedNumbers (reserved.Refused x) ≡ reserveOf M m asked
+    unfolding reserveOf roomSaid reservedNumbers
+    reserve-not asked {x} q = rw (reserve-no asked (counted-no q))
+
+-- copy from n onto m, by its tests in order
+module _ {K W : Type 0} (M : Store K W) (m n : M .State) {b : Bool} (p : b ≡ sizedOf M m) where
+  pub copy-unfit : b ≡ false → told (outcomeNumbers (outcome.Refused Sizes)) m ≡ copyOf M m n
+  unfolding copyOf copy after-copy acted need doneSaid outcomeNumbers
+  copy-unfit q = rw (sized-as M m p q)
+
+  module _ (q : b ≡ true) {d : Bool} (r : d ≡ sizedOf M n) where
+    pub copy-from-unfit : d ≡ false → told (outcomeNumbers (outcome.Refused Sizes)) m ≡ copyOf M m n
+    unfolding copyOf copy after-copy acted need doneSaid outcomeNumbers
+    copy-from-unfit s = rw (sized-as M m p q, sized-as M n r s)
+
+    module _ (s : d ≡ true) where
+      pub copy-slots : (M .size m ≡ M .size n → ⊥) → told (outcomeNumbers (outcome.Refused Sizes)) m ≡ copyOf M m n
+      unfolding copyOf copy after-copy acted need doneSaid outcomeNumbers
+      copy-slots h = rw (sized-as M m p q, sized-as M n r s, ne-eqb (M .size m) (M .size n) h)
+
+      pub copy-arena : M .size m ≡ M .size n → (M .bytes m ≡ M .bytes n → ⊥) → told (outcomeNumbers (outcome.Refused Sizes)) m ≡ copyOf M m n
+      unfolding copyOf copy after-copy acted need doneSaid outcomeNumbers
+      copy-arena e h = rw (sized-as M m p q, sized-as M n r s, eq-eqb (M .size m) (M .size n) e, ne-eqb (M .bytes m) (M .bytes n) h)
+
+      pub copy-done : M .size m ≡ M .size n → M .bytes m ≡ M .bytes n → {x : M .State} → x ≡ n → told (outcomeNumbers outcome.Done) x ≡ copyOf M m n
+      unfolding copyOf copy after-copy acted need doneSaid outcomeNumbers
+      copy-done e f g = rw (sized-as M m p q, sized-as M n r s, eq-eqb (M .size m) (M .size n) e, eq-eqb (M .bytes m) (M .bytes n) f, g)

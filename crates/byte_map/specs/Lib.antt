@@ -1,0 +1,2 @@
+-- The definitions of byte maps.
+pub mod Seeking

@@ -1,0 +1,2 @@
+-- The definitions of walks of byte maps.
+pub mod Numbers

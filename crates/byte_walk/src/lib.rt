@@ -1,0 +1,130 @@
+// Walks of a byte map: a walk is a slot number, and each step hands out at most one pair within its budget, its key as offset and length.
+ghost use mathlib.Core.Path.{_≡_};
+ghost use Prim.Native.Nat.{_+_, _≤_};
+ghost use lib.ListN.{length};
+ghost use Rattle.model.specs.Walk.{reachOf};
+ghost use Rattle.spans.specs.Kinds.{mapMemory, paceOf, stepOf};
+ghost use Rattle.byte_walk.specs.Numbers.{refusedNumbers, stepNumbers};
+use answers::Refusal;
+use byte_map::map_fits;
+use kinds::Next;
+use spans::len_at;
+use spans::next_live;
+use spans::offset_at;
+
+// A walk of a map is the slot where it stands.
+pub struct Walk {
+    pub at: usize,
+}
+
+// What a step of a walk hands out: a pair as its key's offset and length and its value, nothing, or that the walk is done; or a refusal.
+pub enum Paced {
+    Pair(usize, usize, u64),
+    Nothing,
+    Done,
+    Refused(Refusal),
+}
+
+// The answer of a step: the walk moved on, what it hands out, and the examined number.
+pub struct Step {
+    pub walk: Walk,
+    pub out: Paced,
+    pub examined: usize,
+}
+
+// A refused step: the walk as it came, and 0 examined.
+fn refused(at: usize, why: Refusal) -> Step
+    ensures { λ r. ⌜ stepNumbers r ≡ refusedNumbers at why ⌝ }
+{
+    Step {
+        walk: Walk { at },
+        out: Paced::Refused(why),
+        examined: 0,
+    }
+}
+
+// How many slots a step may look at: its budget, and no more than there are from here.
+fn reach(size: usize, at: usize, budget: u64) -> usize
+    requires { ⌜ at ≤ size ⌝ }
+    ensures { λ r. ⌜ r ≡ reachOf size at budget ⌝ }
+{
+    if budget <= (size - at) as u64 {
+        return budget as usize;
+    }
+    size - at
+}
+
+// The slots of a step: up to the first live one, within so many.
+fn pace(
+    marks: &[u8],
+    offsets: &[u16],
+    lengths: &[u8],
+    values: &[u64],
+    arena: &[u8],
+    at: usize,
+    slots: usize,
+) -> Step
+    requires { ⌜ (at + slots ≤ length (now marks)) × (length (now values) ≡ length (now marks)) ⌝ }
+    ensures { λ r. ⌜ stepNumbers r ≡ paceOf (mapMemory (now (marks .entry)) (now (offsets .entry)) (now (lengths .entry)) (now (values .entry)) (now (arena .entry))) at slots ⌝ }
+{
+    let next = next_live(marks, offsets, lengths, arena, at, at + slots);
+    match next {
+        Next::Live(slot) => {
+            let offset = offset_at(offsets, slot) as usize;
+            let len = len_at(lengths, slot) as usize;
+            Step {
+                walk: Walk { at: slot + 1 },
+                out: Paced::Pair(offset, len, values[slot]),
+                examined: slot + 1 - at,
+            }
+        }
+        Next::Bad => refused(at, Refusal::Damaged),
+        Next::Nothing => Step {
+            walk: Walk { at: at + slots },
+            out: Paced::Nothing,
+            examined: slots,
+        },
+    }
+}
+
+impl Walk {
+    // A walk starts at slot 0.
+    pub fn start() -> Walk
+        ensures { λ r. ⌜ r .at ≡ 0 ⌝ }
+    {
+        Walk { at: 0 }
+    }
+
+    // One step with a budget of slots: the pair of the first live slot within it, nothing, or done.
+    pub fn step(
+        self,
+        marks: &[u8],
+        offsets: &[u16],
+        lengths: &[u8],
+        values: &[u64],
+        arena: &[u8],
+        budget: u64,
+    ) -> Step
+        ensures { λ r. ⌜ stepNumbers r ≡ stepOf (mapMemory (now (marks .entry)) (now (offsets .entry)) (now (lengths .entry)) (now (values .entry)) (now (arena .entry))) (self .at) budget ⌝ }
+    {
+        let at = self.at;
+        if map_fits(marks, offsets, lengths, values, arena) {
+            if budget == 0 {
+                return refused(at, Refusal::NoBudget);
+            }
+            if marks.len() < at {
+                return refused(at, Refusal::WalkBeyond);
+            }
+            if at == marks.len() {
+                return Step {
+                    walk: Walk { at },
+                    out: Paced::Done,
+                    examined: 0,
+                };
+            }
+            let slots = reach(marks.len(), at, budget);
+            return pace(marks, offsets, lengths, values, arena, at, slots);
+        }
+        refused(at, Refusal::Sizes)
+    }
+}
