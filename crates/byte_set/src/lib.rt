@@ -33,9 +33,10 @@ pub fn make(marks: &mut [u8], offsets: &mut [u16], lengths: &mut [u8], arena: &m
 {
     if spans::fits(marks, offsets, lengths, arena) {
         arena::wipe(marks, offsets, lengths, arena);
-        return Outcome::Done;
+        Outcome::Done
+    } else {
+        Outcome::Refused(Refusal::Sizes)
     }
-    Outcome::Refused(Refusal::Sizes)
 }
 
 // Empties a set: every slot becomes never used, every arena byte 0.
