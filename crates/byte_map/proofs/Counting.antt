@@ -1,10 +1,10 @@
--- What the tests and callees of make, capacity, len, is_empty, reserve and copy say of their definitions, at any store.
+-- What the tests and callees of make, capacity, len, is_empty and reserve say of their definitions, at any store.
 use Prim.Native.Nat.{ℕ, _-_, _≤_, _<_}
 use mathlib.Core.Bool.{Bool, true, false}
 use mathlib.Core.Path.{_≡_, sym, _∙_, ap}
 use native.Mathlib.Omega.{arith}
-use borrow.Author.Tests.{eq-eqb, ne-eqb, le-leb, lt-leb}
-use Rattle.model.specs.Calls.{Or, no, ok, need, acted, capacity, after-make, length, reserve, copy, after-copy}
+use borrow.Author.Tests.{ne-eqb, le-leb, lt-leb}
+use Rattle.model.specs.Calls.{Or, no, ok, need, acted, capacity, after-make, length, reserve}
 use Rattle.model.specs.Store.{Store, live-count, hurtful}
 use Rattle.model.proofs.Cases.{by-bool}
 use Rattle.model.proofs.Slots.{count-high}
@@ -19,7 +19,7 @@ use Rattle.answers.specs.Refusals.{numberOf}
 use Rattle.answers.specs.Numbers.{outcomeNumbers, countedNumbers, emptinessNumbers, reservedNumbers}
 use Rattle.answers.specs.Said.{doneSaid, countSaid, emptySaid, roomSaid}
 use Rattle.kinds.specs.Told.{told}
-use Rattle.kinds.specs.Calls.{makeOf, capacityOf, lenOf, isEmptyOf, reserveOf, copyOf}
+use Rattle.kinds.specs.Calls.{makeOf, capacityOf, lenOf, isEmptyOf, reserveOf}
 use Rattle.byte_map.specs.Seeking.{sizedOf}
 
 -- what a length says where it was counted, and where it was refused
@@ -129,27 +129,3 @@ module _ {K W : Type 0} (M : Store K W) (m : M .State) where
     pub reserve-not : (asked : ℕ) {x : Refusal} → r ≡ counted.Refused x → reservedNumbers (reserved.Refused x) ≡ reserveOf M m asked
     unfolding reserveOf roomSaid reservedNumbers
     reserve-not asked {x} q = rw (reserve-no asked (counted-no q))
-
--- copy from n onto m, by its tests in order
-module _ {K W : Type 0} (M : Store K W) (m n : M .State) {b : Bool} (p : b ≡ sizedOf M m) where
-  pub copy-unfit : b ≡ false → told (outcomeNumbers (outcome.Refused Sizes)) m ≡ copyOf M m n
-  unfolding copyOf copy after-copy acted need doneSaid outcomeNumbers
-  copy-unfit q = rw (sized-as M m p q)
-
-  module _ (q : b ≡ true) {d : Bool} (r : d ≡ sizedOf M n) where
-    pub copy-from-unfit : d ≡ false → told (outcomeNumbers (outcome.Refused Sizes)) m ≡ copyOf M m n
-    unfolding copyOf copy after-copy acted need doneSaid outcomeNumbers
-    copy-from-unfit s = rw (sized-as M m p q, sized-as M n r s)
-
-    module _ (s : d ≡ true) where
-      pub copy-slots : (M .size m ≡ M .size n → ⊥) → told (outcomeNumbers (outcome.Refused Sizes)) m ≡ copyOf M m n
-      unfolding copyOf copy after-copy acted need doneSaid outcomeNumbers
-      copy-slots h = rw (sized-as M m p q, sized-as M n r s, ne-eqb (M .size m) (M .size n) h)
-
-      pub copy-arena : M .size m ≡ M .size n → (M .bytes m ≡ M .bytes n → ⊥) → told (outcomeNumbers (outcome.Refused Sizes)) m ≡ copyOf M m n
-      unfolding copyOf copy after-copy acted need doneSaid outcomeNumbers
-      copy-arena e h = rw (sized-as M m p q, sized-as M n r s, eq-eqb (M .size m) (M .size n) e, ne-eqb (M .bytes m) (M .bytes n) h)
-
-      pub copy-done : M .size m ≡ M .size n → M .bytes m ≡ M .bytes n → {x : M .State} → x ≡ n → told (outcomeNumbers outcome.Done) x ≡ copyOf M m n
-      unfolding copyOf copy after-copy acted need doneSaid outcomeNumbers
-      copy-done e f g = rw (sized-as M m p q, sized-as M n r s, eq-eqb (M .size m) (M .size n) e, eq-eqb (M .bytes m) (M .bytes n) f, g)

@@ -3,8 +3,7 @@ use Prim.Native.Nat.{ℕ}
 use mathlib.Core.Bool.{Bool, true}
 use mathlib.Core.List.{List}
 use mathlib.Core.Path.{_≡_, sym, _∙_}
-use native.Mathlib.Omega.{arith}
-use borrow.Author.Tests.{eqb-true, eq-eqb}
+use borrow.Author.Tests.{eqb-true}
 use lib.Dec.{eqb}
 use lib.ListN.{length, getD, set, replicate}
 use Rattle.model.specs.Calls.{get, entry, storedBy, after-insert, remove, removedBy, after-remove}
@@ -19,21 +18,20 @@ use Rattle.answers.specs.declared.Stored.the-variants as stored
 use Rattle.answers.specs.declared.Removed.the-variants as removed
 use Rattle.answers.specs.Numbers.{outcomeNumbers, countedNumbers, gotNumbers, containedNumbers, storedNumbers, removedNumbers}
 use Rattle.answers.specs.Said.{gotSaid, containedSaid, storedSaid, removedSaid}
-use Rattle.arrays.specs.Whole.{copied}
 use Rattle.kinds.specs.declared.Probed.{Probed}
 use Rattle.kinds.specs.declared.Probed.the-variants as probed
 use Rattle.kinds.specs.declared.Scanned.{Scanned}
 use Rattle.kinds.specs.declared.Scanned.the-variants as scanned
 use Rattle.kinds.specs.Columns.{values}
 use Rattle.kinds.specs.Told.{told}
-use Rattle.kinds.specs.Calls.{makeOf, lenOf, getOf, containsOf, removeOf, copyOf}
+use Rattle.kinds.specs.Calls.{makeOf, lenOf, getOf, containsOf, removeOf}
 use Rattle.kinds.proofs.Bridge.{seenOf}
 use Rattle.spans.specs.declared.Placed.{Placed}
 use Rattle.spans.specs.declared.Placed.the-variants as placed
 use Rattle.spans.specs.declared.Located.{Located}
 use Rattle.spans.specs.declared.Located.the-variants as located
 use Rattle.spans.specs.Memory.{Spans, Strings, fitting, filled, emptied, wiped}
-use Rattle.spans.specs.Kinds.{maps, mapMemory, insertOf}
+use Rattle.spans.specs.Kinds.{maps, insertOf}
 use Rattle.spans.specs.Scanning.{scanning}
 use Rattle.spans.proofs.Bridge.{spotOf, lostOf, scan-live, scan-bad}
 use Rattle.spans.proofs.Sizes.{fitting-says}
@@ -127,10 +125,6 @@ module _ (m : Strings values) where
     unfolding removeOf after-remove removedBy removedSaid removedNumbers
     remove-refused q = rw (remove-is, q)
 
-copied-whole : (to from : List ℕ) {a : List ℕ} → length to ≡ length from → a ≡ copied to from → a ≡ from
-unfolding copied
-copied-whole to from e p = p ∙ (rw (eq-eqb (length to) (length from) e))
-
 -- right sizes: as many offsets, lengths and values as marks
 pub same-long : (m : Strings values) {b : Bool} → b ≡ sizedOf maps m → b ≡ true → (length (m .spans .offsets) ≡ length (m .spans .marks)) × (length (m .spans .lengths) ≡ length (m .spans .marks)) × (length (m .words) ≡ length (m .spans .marks))
 unfolding sizedOf
@@ -138,11 +132,3 @@ same-long m p q =
     let (f, l) = both (fitting (m .spans)) (eqb (length (m .spans .marks)) (length (m .words))) (sym p ∙ q) in
     let z = fitting-says (m .spans) f in
     (z .offsets, z .lengths, sym (eqb-true (length (m .spans .marks)) (length (m .words)) l))
-
--- copy onto the first map from the second
-pub copy-done : (m n : Strings values) {b d : Bool} → b ≡ sizedOf maps m → b ≡ true → d ≡ sizedOf maps n → d ≡ true → length (m .spans .marks) ≡ length (n .spans .marks) → length (m .spans .arena) ≡ length (n .spans .arena) → {x y z v w : List ℕ} → x ≡ copied (m .spans .marks) (n .spans .marks) → y ≡ copied (m .spans .offsets) (n .spans .offsets) → z ≡ copied (m .spans .lengths) (n .spans .lengths) → v ≡ copied (m .words) (n .words) → w ≡ copied (m .spans .arena) (n .spans .arena) → told (outcomeNumbers outcome.Done) (mapMemory x y z v w) ≡ copyOf maps m n
-copy-done m n p q r s e f x y z v w =
-    let (a, b, c) = same-long m p q in
-    let (d, g, h) = same-long n r s in
-    counting.copy-done maps m n p q r s e f
-    (rw (copied-whole (m .spans .marks) (n .spans .marks) e x, copied-whole (m .spans .offsets) (n .spans .offsets) (omega arith) y, copied-whole (m .spans .lengths) (n .spans .lengths) (omega arith) z, copied-whole (m .words) (n .words) (omega arith) v, copied-whole (m .spans .arena) (n .spans .arena) f w))

@@ -5,7 +5,7 @@ use Rattle.answers.specs.Numbers.{outcomeNumbers, countedNumbers, emptinessNumb
 use Rattle.answers.proofs.Equal.{outcomeNumbers-injective, countedNumbers-injective, emptinessNumbers-injective, reservedNumbers-injective, gotNumbers-injective, containedNumbers-injective, storedNumbers-injective, removedNumbers-injective}
 use Rattle.kinds.specs.Columns.{values}
 use Rattle.kinds.specs.Told.{Settled, SettledWith}
-use Rattle.kinds.specs.Calls.{makeOf, capacityOf, lenOf, isEmptyOf, reserveOf, getOf, containsOf, removeOf, copyOf}
+use Rattle.kinds.specs.Calls.{makeOf, capacityOf, lenOf, isEmptyOf, reserveOf, getOf, containsOf, removeOf}
 use Rattle.kinds.proofs.Settled.{settled, settled-with}
 use Rattle.spans.specs.Memory.{Strings}
 use Rattle.spans.specs.Kinds.{maps, insertOf}
@@ -50,7 +50,3 @@ module _ (m : Strings values) where
   -- `remove`.
   pub remove-settled : (k : List ℕ) → SettledWith removedNumbers (removeOf maps m k)
   remove-settled k = settled-with removedNumbers-injective
-
-  -- `copy`.
-  pub copy-settled : (from : Strings values) → SettledWith outcomeNumbers (copyOf maps m from)
-  copy-settled from = settled-with outcomeNumbers-injective

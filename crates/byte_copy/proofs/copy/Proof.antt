@@ -1,9 +1,8 @@
--- `byte_map::copy` meets its contract: refusal 1, or every slot and byte is the other table's.
+-- `byte_copy::copy` meets its contract: refusal 1, or every slot and byte is the other table's.
 use borrow.Author.Needs.{needs}
-use Rattle.byte_map.proofs.Counting.{copy-arena, copy-slots, copy-from-unfit, copy-unfit}
-use Rattle.byte_map.proofs.Laws.{copy-done}
-use Rattle.byte_map.proofs.copy.Statement.{statement}
-use Rattle.byte_map.proofs.copy.Tie as tie
+use Rattle.byte_copy.proofs.Laws.{copy-done, copy-arena, copy-slots, copy-from-unfit, copy-unfit}
+use Rattle.byte_copy.proofs.copy.Statement.{statement}
+use Rattle.byte_copy.proofs.copy.Tie as tie
 
 map-fits-requires : tie.Need-map-fits-requires
 map-fits-requires c κs = search needs

@@ -1,0 +1,3 @@
+-- The laws of copies of byte maps.
+pub mod Laws
+pub mod Settled

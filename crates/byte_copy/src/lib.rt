@@ -1,0 +1,44 @@
+// The copy of a byte map. Its contract is one equation with a definition of the theory at this store.
+ghost use mathlib.Core.Path.{_≡_};
+ghost use Rattle.answers.specs.Numbers.{outcomeNumbers};
+ghost use Rattle.kinds.specs.Told.{told};
+ghost use Rattle.kinds.specs.Calls.{copyOf};
+ghost use Rattle.spans.specs.Kinds.{maps, mapMemory};
+use answers::Outcome;
+use answers::Refusal;
+use arrays::copy_bytes;
+use arrays::copy_shorts;
+use arrays::copy_words;
+use byte_map::map_fits;
+
+// Makes a map equal to another of equal sizes, in every slot and byte.
+pub fn copy(
+    to_marks: &mut [u8],
+    to_offsets: &mut [u16],
+    to_lengths: &mut [u8],
+    to_values: &mut [u64],
+    to_arena: &mut [u8],
+    marks: &[u8],
+    offsets: &[u16],
+    lengths: &[u8],
+    values: &[u64],
+    arena: &[u8],
+) -> Outcome
+    ensures { λ r. ⌜ told (outcomeNumbers r) (mapMemory (now («to_marks» .exit)) (now («to_offsets» .exit)) (now («to_lengths» .exit)) (now («to_values» .exit)) (now («to_arena» .exit))) ≡ copyOf maps (mapMemory (now («to_marks» .entry)) (now («to_offsets» .entry)) (now («to_lengths» .entry)) (now («to_values» .entry)) (now («to_arena» .entry))) (mapMemory (now (marks .entry)) (now (offsets .entry)) (now (lengths .entry)) (now (values .entry)) (now (arena .entry))) ⌝ }
+{
+    if map_fits(to_marks, to_offsets, to_lengths, to_values, to_arena) {
+        if map_fits(marks, offsets, lengths, values, arena) {
+            if to_marks.len() == marks.len() {
+                if to_arena.len() == arena.len() {
+                    copy_bytes(to_marks, marks);
+                    copy_shorts(to_offsets, offsets);
+                    copy_bytes(to_lengths, lengths);
+                    copy_words(to_values, values);
+                    copy_bytes(to_arena, arena);
+                    return Outcome::Done;
+                }
+            }
+        }
+    }
+    Outcome::Refused(Refusal::Sizes)
+}
