@@ -1,0 +1,3 @@
+-- The laws of the byte map's entries.
+pub mod Equal
+pub mod Places
