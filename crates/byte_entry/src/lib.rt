@@ -1,12 +1,15 @@
 // The byte map's entries: an entry answer, and handles that their own calls take and hand back; the key is given again each time.
 ghost use mathlib.Core.Path.{_≡_};
 ghost use lib.ListN.{length};
-ghost use Rattle.kinds.specs.Calls.{entryOf};
+ghost use Rattle.kinds.specs.Calls.{entryOf, heldOf, setOf, takenOf};
+ghost use Rattle.kinds.specs.Told.{told};
 ghost use Rattle.spans.specs.Kinds.{maps, mapMemory};
-ghost use Rattle.byte_entry.specs.Numbers.{enteredNumbers};
-ghost use Rattle.byte_entry.specs.Planning.{storing};
+ghost use Rattle.byte_entry.specs.Numbers.{enteredNumbers, heldNumbers, swappedNumbers, takenNumbers};
+ghost use Rattle.byte_entry.specs.Planning.{storing, sized, heldBy, gripping, holding, pulledBy, pulling};
 use answers::Refusal;
+use kinds::Sight;
 use spans::Placed;
+use spans::Surveyed;
 
 // A handle of a slot that holds a key.
 pub struct Occupied {
@@ -49,6 +52,12 @@ pub enum Standing {
     Refused(Refusal),
 }
 
+// The plan of an occupied handle's removal: the value and `used`, or a refusal.
+pub enum Pulled {
+    Out(u64, usize),
+    Refused(Refusal),
+}
+
 // The plan of a call that stores a key, with the test of the values' length.
 fn find_place(
     marks: &[u8],
@@ -82,5 +91,147 @@ pub fn entry(
         Placed::Hit(slot, examined) => Entered::Occupied(Occupied { slot }, values[slot], examined),
         Placed::Free(slot, examined, _) => Entered::Vacant(Vacant { slot }, examined),
         Placed::Refused(r) => Entered::Refused(r),
+    }
+}
+
+// Whether the lent slices agree in length, and S and the arena are within their limits.
+fn map_fits(marks: &[u8], offsets: &[u16], lengths: &[u8], values: &[u64], arena: &[u8]) -> bool
+    ensures { λ r. ⌜ r ≡ sized (mapMemory (now (marks .entry)) (now (offsets .entry)) (now (lengths .entry)) (now (values .entry)) (now (arena .entry))) ⌝ }
+{
+    if marks.len() == values.len() {
+        return spans::fits(marks, offsets, lengths, arena);
+    }
+    false
+}
+
+// What an occupied handle holds by the look at its slot.
+fn held_by(sight: Sight, slot: usize, value: u64) -> Held
+    ensures { λ r. ⌜ r ≡ heldBy slot value sight ⌝ }
+{
+    match sight {
+        Sight::Never => Held::Refused(Refusal::BadHandle),
+        Sight::Bad => Held::Refused(Refusal::Damaged),
+        Sight::Same => Held::Value(value, Occupied { slot }),
+        Sight::On => Held::Refused(Refusal::BadHandle),
+    }
+}
+
+// What an occupied handle of this slot holds for the key, where sizes fit.
+fn grip(
+    marks: &[u8],
+    offsets: &[u16],
+    lengths: &[u8],
+    values: &[u64],
+    arena: &[u8],
+    slot: usize,
+    key: &[u8],
+) -> Held
+    requires { ⌜ length (now values) ≡ length (now marks) ⌝ }
+    ensures { λ r. ⌜ r ≡ gripping (mapMemory (now (marks .entry)) (now (offsets .entry)) (now (lengths .entry)) (now (values .entry)) (now (arena .entry))) slot (now (key .entry)) ⌝ }
+{
+    if slot < marks.len() {
+        let sight = spans::look(marks, offsets, lengths, arena, slot, key);
+        return held_by(sight, slot, values[slot]);
+    }
+    Held::Refused(Refusal::BadHandle)
+}
+
+// The plan of an occupied handle's get and set: the value in the slot, or a refusal.
+fn hold(
+    marks: &[u8],
+    offsets: &[u16],
+    lengths: &[u8],
+    values: &[u64],
+    arena: &[u8],
+    slot: usize,
+    key: &[u8],
+) -> Held
+    ensures { λ r. ⌜ r ≡ holding (mapMemory (now (marks .entry)) (now (offsets .entry)) (now (lengths .entry)) (now (values .entry)) (now (arena .entry))) slot (now (key .entry)) ⌝ }
+{
+    if map_fits(marks, offsets, lengths, values, arena) {
+        if spans::may_ask(key) {
+            return grip(marks, offsets, lengths, values, arena, slot, key);
+        }
+        return Held::Refused(Refusal::LongKey);
+    }
+    Held::Refused(Refusal::Sizes)
+}
+
+// What a removal makes of a handle's test, where so many bytes are used.
+fn pulled_by(held: Held, used: usize) -> Pulled
+    ensures { λ r. ⌜ r ≡ pulledBy used held ⌝ }
+{
+    match held {
+        Held::Value(value, _) => Pulled::Out(value, used),
+        Held::Refused(r) => Pulled::Refused(r),
+    }
+}
+
+// The plan of an occupied handle's removal: every slot is examined, then the handle's.
+fn pull(
+    marks: &[u8],
+    offsets: &[u16],
+    lengths: &[u8],
+    values: &[u64],
+    arena: &[u8],
+    slot: usize,
+    key: &[u8],
+) -> Pulled
+    ensures { λ r. ⌜ r ≡ pulling (mapMemory (now (marks .entry)) (now (offsets .entry)) (now (lengths .entry)) (now (values .entry)) (now (arena .entry))) slot (now (key .entry)) ⌝ }
+{
+    if map_fits(marks, offsets, lengths, values, arena) {
+        if spans::may_ask(key) {
+            let found = spans::survey(marks, offsets, lengths, arena);
+            match found {
+                Surveyed::Used(used) => {
+                    let held = grip(marks, offsets, lengths, values, arena, slot, key);
+                    return pulled_by(held, used);
+                }
+                Surveyed::Bad => return Pulled::Refused(Refusal::Damaged),
+            }
+        }
+        return Pulled::Refused(Refusal::LongKey);
+    }
+    Pulled::Refused(Refusal::Sizes)
+}
+
+impl Occupied {
+    // The value in the slot.
+    pub fn get(
+        self,
+        marks: &[u8],
+        offsets: &[u16],
+        lengths: &[u8],
+        values: &[u64],
+        arena: &[u8],
+        key: &[u8],
+    ) -> Held
+        ensures { λ r. ⌜ heldNumbers r ≡ heldOf maps (mapMemory (now (marks .entry)) (now (offsets .entry)) (now (lengths .entry)) (now (values .entry)) (now (arena .entry))) (self .slot) (now (key .entry)) ⌝ }
+    {
+        hold(marks, offsets, lengths, values, arena, self.slot, key)
+    }
+
+    // Gives the slot another value; the old one is answered.
+    pub fn set(
+        self,
+        marks: &mut [u8],
+        offsets: &mut [u16],
+        lengths: &mut [u8],
+        values: &mut [u64],
+        arena: &mut [u8],
+        key: &[u8],
+        value: u64,
+    ) -> Swapped
+        ensures { λ r. ⌜ told (swappedNumbers r) (mapMemory (now (marks .exit)) (now (offsets .exit)) (now (lengths .exit)) (now (values .exit)) (now (arena .exit))) ≡ setOf maps (mapMemory (now (marks .entry)) (now (offsets .entry)) (now (lengths .entry)) (now (values .entry)) (now (arena .entry))) (self .slot) (now (key .entry)) value ⌝ }
+    {
+        let slot = self.slot;
+        let held = hold(marks, offsets, lengths, values, arena, slot, key);
+        match held {
+            Held::Value(old, _) => {
+                values[slot] = value;
+                Swapped::Was(old, Occupied { slot })
+            }
+            Held::Refused(r) => Swapped::Refused(r),
+        }
     }
 }
