@@ -5,6 +5,7 @@ use Prim.Native.Nat.{ℕ}
 use lib.Dec.{eqb, ltb}
 use lib.ListN.{length, getD}
 use Rattle.answers.specs.declared.Refusal.the-variants as refusal
+use Rattle.answers.specs.Refusals.{numberOf}
 use Rattle.kinds.specs.declared.Sight.{Sight}
 use Rattle.kinds.specs.declared.Sight.the-variants.{Never, Bad, Same, On}
 use Rattle.kinds.specs.Columns.{values}
@@ -13,6 +14,8 @@ use Rattle.spans.specs.declared.Placed.the-variants as placed
 use Rattle.spans.specs.Memory.{Strings, usedOf, harmful, fitting, askedOf}
 use Rattle.spans.specs.Planning.{placing}
 use Rattle.spans.specs.Probing.{sightAt}
+use Rattle.byte_entry.specs.declared.Fresh.{Fresh}
+use Rattle.byte_entry.specs.declared.Fresh.the-variants as fresh
 use Rattle.byte_entry.specs.declared.Held.{Held}
 use Rattle.byte_entry.specs.declared.Held.the-variants as held
 use Rattle.byte_entry.specs.declared.Pulled.{Pulled}
@@ -57,3 +60,9 @@ pulling m i k =
     (cond (harmful (m .spans)) (pulled.Refused refusal.Damaged) (pulledBy (usedOf (m .spans)) (gripping m i k)))
     (pulled.Refused refusal.LongKey))
     (pulled.Refused refusal.Sizes)
+
+-- What a vacant handle of the slot i makes of insert's plan: refusals 1, 2 and 5 stay, and anything that insert would not do at that very slot is refused 6.
+unfoldable pub freshBy : ℕ → Placed → Fresh
+freshBy i (placed.Hit x e) = fresh.Refused refusal.BadHandle
+freshBy i (placed.Free x e u) = cond (eqb i x) (fresh.Used u) (fresh.Refused refusal.BadHandle)
+freshBy i (placed.Refused r) = cond (ltb 6 (numberOf r)) (fresh.Refused refusal.BadHandle) (fresh.Refused r)

@@ -1,11 +1,12 @@
 // The byte map's entries: an entry answer, and handles that their own calls take and hand back; the key is given again each time.
 ghost use mathlib.Core.Path.{_≡_};
 ghost use lib.ListN.{length};
-ghost use Rattle.kinds.specs.Calls.{entryOf, heldOf, setOf, takenOf};
+ghost use Rattle.kinds.specs.Calls.{entryOf, heldOf, setOf, takenOf, standingOf, orInsertOf, insertEntryOf};
 ghost use Rattle.kinds.specs.Told.{told};
 ghost use Rattle.spans.specs.Kinds.{maps, mapMemory};
-ghost use Rattle.byte_entry.specs.Numbers.{enteredNumbers, heldNumbers, swappedNumbers, takenNumbers};
-ghost use Rattle.byte_entry.specs.Planning.{storing, sized, heldBy, gripping, holding, pulledBy, pulling};
+ghost use Rattle.byte_entry.specs.Numbers.{enteredNumbers, heldNumbers, swappedNumbers, takenNumbers, standingNumbers};
+ghost use Rattle.byte_entry.specs.Planning.{storing, sized, heldBy, gripping, holding, pulledBy, pulling, freshBy};
+ghost use Rattle.byte_entry.specs.Calls.{placeOf, handleOf};
 use answers::Refusal;
 use kinds::Sight;
 use spans::Placed;
@@ -55,6 +56,12 @@ pub enum Standing {
 // The plan of an occupied handle's removal: the value and `used`, or a refusal.
 pub enum Pulled {
     Out(u64, usize),
+    Refused(Refusal),
+}
+
+// The plan of a vacant handle's insert: `used`, or a refusal.
+pub enum Fresh {
+    Used(usize),
     Refused(Refusal),
 }
 
@@ -232,6 +239,154 @@ impl Occupied {
                 Swapped::Was(old, Occupied { slot })
             }
             Held::Refused(r) => Swapped::Refused(r),
+        }
+    }
+
+    // Frees the slot; its value is answered.
+    pub fn remove(
+        self,
+        marks: &mut [u8],
+        offsets: &mut [u16],
+        lengths: &mut [u8],
+        values: &mut [u64],
+        arena: &mut [u8],
+        key: &[u8],
+    ) -> Taken
+        ensures { λ r. ⌜ told (takenNumbers r) (mapMemory (now (marks .exit)) (now (offsets .exit)) (now (lengths .exit)) (now (values .exit)) (now (arena .exit))) ≡ takenOf maps (mapMemory (now (marks .entry)) (now (offsets .entry)) (now (lengths .entry)) (now (values .entry)) (now (arena .entry))) (self .slot) (now (key .entry)) ⌝ }
+    {
+        let slot = self.slot;
+        let plan = pull(marks, offsets, lengths, values, arena, slot, key);
+        match plan {
+            Pulled::Out(old, used) => {
+                values[slot] = 0;
+                arena::free(marks, offsets, lengths, arena, slot, used);
+                Taken::Removed(old)
+            }
+            Pulled::Refused(r) => Taken::Refused(r),
+        }
+    }
+
+    // Frees the slot; its value is answered, and its key is the one given.
+    pub fn remove_entry(
+        self,
+        marks: &mut [u8],
+        offsets: &mut [u16],
+        lengths: &mut [u8],
+        values: &mut [u64],
+        arena: &mut [u8],
+        key: &[u8],
+    ) -> Taken
+        ensures { λ r. ⌜ told (takenNumbers r) (mapMemory (now (marks .exit)) (now (offsets .exit)) (now (lengths .exit)) (now (values .exit)) (now (arena .exit))) ≡ takenOf maps (mapMemory (now (marks .entry)) (now (offsets .entry)) (now (lengths .entry)) (now (values .entry)) (now (arena .entry))) (self .slot) (now (key .entry)) ⌝ }
+    {
+        self.remove(marks, offsets, lengths, values, arena, key)
+    }
+}
+
+// What a vacant handle of this slot makes of insert's plan: it is good where insert would use that very slot.
+fn fresh_by(plan: Placed, slot: usize) -> Fresh
+    ensures { λ r. ⌜ r ≡ freshBy slot plan ⌝ }
+{
+    match plan {
+        Placed::Free(free, _, used) => {
+            if slot == free {
+                return Fresh::Used(used);
+            }
+            return Fresh::Refused(Refusal::BadHandle);
+        }
+        Placed::Hit(_, _) => return Fresh::Refused(Refusal::BadHandle),
+        Placed::Refused(r) => {
+            if 6 < answers::number(r) {
+                return Fresh::Refused(Refusal::BadHandle);
+            }
+            return Fresh::Refused(r);
+        }
+    }
+}
+
+impl Vacant {
+    // Puts the key and a value into the slot, where insert would use that very slot.
+    pub fn insert(
+        self,
+        marks: &mut [u8],
+        offsets: &mut [u16],
+        lengths: &mut [u8],
+        values: &mut [u64],
+        arena: &mut [u8],
+        key: &[u8],
+        value: u64,
+    ) -> Standing
+        ensures { λ r. ⌜ told (standingNumbers r) (mapMemory (now (marks .exit)) (now (offsets .exit)) (now (lengths .exit)) (now (values .exit)) (now (arena .exit))) ≡ standingOf maps (mapMemory (now (marks .entry)) (now (offsets .entry)) (now (lengths .entry)) (now (values .entry)) (now (arena .entry))) (self .slot) (now (key .entry)) value ⌝ }
+    {
+        let slot = self.slot;
+        let plan = find_place(marks, offsets, lengths, values, arena, key);
+        let worth = fresh_by(plan, slot);
+        match worth {
+            Fresh::Used(used) => {
+                values[slot] = value;
+                arena::fill(marks, offsets, lengths, arena, slot, used, key);
+                Standing::Now(Occupied { slot }, value)
+            }
+            Fresh::Refused(r) => Standing::Refused(r),
+        }
+    }
+}
+
+impl Entered {
+    // The vacant handle of an answer that is not occupied; a refused one counts as a handle of slot S.
+    fn place(self, size: usize) -> Vacant
+        ensures { λ r. ⌜ r .slot ≡ placeOf size self ⌝ }
+    {
+        let Entered::Vacant(place, _) = self else {
+            return Vacant { slot: size };
+        };
+        place
+    }
+
+    // Keeps a present value, else puts the default in; the value now in the slot is answered.
+    pub fn or_insert(
+        self,
+        marks: &mut [u8],
+        offsets: &mut [u16],
+        lengths: &mut [u8],
+        values: &mut [u64],
+        arena: &mut [u8],
+        key: &[u8],
+        default: u64,
+    ) -> Standing
+        ensures { λ r. ⌜ told (standingNumbers r) (mapMemory (now (marks .exit)) (now (offsets .exit)) (now (lengths .exit)) (now (values .exit)) (now (arena .exit))) ≡ orInsertOf maps (mapMemory (now (marks .entry)) (now (offsets .entry)) (now (lengths .entry)) (now (values .entry)) (now (arena .entry))) (handleOf (length (now (marks .entry))) self) (now (key .entry)) default ⌝ }
+    {
+        let Entered::Occupied(handle, _, _) = self else {
+            return self.place(marks.len())
+                .insert(marks, offsets, lengths, values, arena, key, default);
+        };
+        let held = hold(marks, offsets, lengths, values, arena, handle.slot, key);
+        match held {
+            Held::Value(value, _) => Standing::Now(handle, value),
+            Held::Refused(r) => Standing::Refused(r),
+        }
+    }
+
+    // Replaces a present value, else puts the value in; the value now in the slot is answered.
+    pub fn insert_entry(
+        self,
+        marks: &mut [u8],
+        offsets: &mut [u16],
+        lengths: &mut [u8],
+        values: &mut [u64],
+        arena: &mut [u8],
+        key: &[u8],
+        value: u64,
+    ) -> Standing
+        ensures { λ r. ⌜ told (standingNumbers r) (mapMemory (now (marks .exit)) (now (offsets .exit)) (now (lengths .exit)) (now (values .exit)) (now (arena .exit))) ≡ insertEntryOf maps (mapMemory (now (marks .entry)) (now (offsets .entry)) (now (lengths .entry)) (now (values .entry)) (now (arena .entry))) (handleOf (length (now (marks .entry))) self) (now (key .entry)) value ⌝ }
+    {
+        let Entered::Occupied(handle, _, _) = self else {
+            return self.place(marks.len())
+                .insert(marks, offsets, lengths, values, arena, key, value);
+        };
+        let swapped = handle.set(marks, offsets, lengths, values, arena, key, value);
+        match swapped {
+            Swapped::Was(_, _) => Standing::Now(handle, value),
+            Swapped::Refused(r) => Standing::Refused(r),
         }
     }
 }
