@@ -48,14 +48,14 @@ lostOf read (located.Hit i e u) = ok (found (read i) i e)
 lostOf read (located.Absent e) = ok (absent e)
 lostOf read (located.Refused x) = no (numberOf x)
 
--- a key that may not be asked for is refused 2
-asked-no : (k : List ℕ) → eqb (askedOf k) 0 ≡ false → askedOf k ≡ 2
+-- a key that may not be asked for is refused 2, and so one that may not be stored
+pub asked-no : (k : List ℕ) → eqb (askedOf k) 0 ≡ false → askedOf k ≡ 2
 unfolding askedOf
 asked-no k e = by-bool (keyFits (length k))
     (λ f. let y : _≡_ {A = ℕ} 0 1 = cc (rw f at e) in absurd (omega arith))
     (λ f. rw f)
 
-kept-no : (k : List ℕ) → eqb (keptOf k) 0 ≡ false → keptOf k ≡ 2
+pub kept-no : (k : List ℕ) → eqb (keptOf k) 0 ≡ false → keptOf k ≡ 2
 unfolding keptOf
 kept-no k e = asked-no k e
 
