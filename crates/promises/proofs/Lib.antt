@@ -2,3 +2,4 @@
 pub mod IntMap
 pub mod IntSet
 pub mod ByteSet
+pub mod ByteMap
