@@ -2,7 +2,7 @@
 use Prim.Native.Nat.{ℕ, zero, suc, _<_}
 use mathlib.Core.Bool.{Bool, true, false, _&&_}
 use mathlib.Core.List.{List}
-use mathlib.Core.Path.{_≡_, refl, sym, _∙_, ap}
+use mathlib.Core.Path.{_≡_, refl, sym, _∙_}
 use native.Mathlib.Omega.{arith}
 use borrow.Author.Tests.{eqb-true}
 use lib.Dec.{eqb}
@@ -125,13 +125,15 @@ module _ (m : Strings values) (i : ℕ) (k : List ℕ) where
       let (l, n, z) = gripped (rw (f, a, h) at q) in
       let (w, t) = unharmed-says (m .spans) h in
       let y = fitting-says (m .spans) (both (fitting (m .spans)) (eqb (length (m .spans .marks)) (length (m .words))) f .0) in
-      let o = one-length m (sym f) refl in
-      (record {
-        aligned = record { slot = l; offsets = y .offsets; lengths = y .lengths };
-        used = sym z;
-        ends = rw (← z) (t i n);
-        within = rw (← z) w;
-      }, omega arith)))
+      let o = one-length m (sym f) refl in (
+        record {
+          aligned = record { slot = l; offsets = y .offsets; lengths = y .lengths };
+          used = sym z;
+          ends = rw (← z) (t i n);
+          within = rw (← z) w;
+        },
+        omega arith,
+      )))
       (λ a. clash (cc (rw (f, a) at q))))
       (λ f. clash (cc (rw f at q)))
 
