@@ -13,7 +13,7 @@ use Rattle.answers.specs.Refusals.{numberOf}
 use Rattle.answers.specs.Said.{swappedSaid, standingSaid}
 use Rattle.kinds.specs.Calls.{setOf, standingOf, slotOf, orInsertOf, insertEntryOf}
 use Rattle.kinds.specs.Columns.{values}
-use Rattle.kinds.specs.Told.{Told, told}
+use Rattle.kinds.specs.Told.{told}
 use Rattle.spans.specs.Kinds.{maps}
 use Rattle.spans.specs.Memory.{Strings}
 use Rattle.byte_entry.proofs.Entered.{the-type}

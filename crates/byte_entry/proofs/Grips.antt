@@ -2,20 +2,20 @@
 use Prim.Native.Nat.{ℕ, zero, suc, _≤_, _<_}
 use mathlib.Core.Bool.{Bool, true, false, _&&_}
 use mathlib.Core.List.{List}
-use mathlib.Core.Path.{_≡_, refl, sym, _∙_, ap}
+use mathlib.Core.Path.{_≡_, refl, sym, _∙_}
 use native.Mathlib.Omega.{arith}
 use borrow.Author.Tests.{lt-ltb, le-ltb, eq-eqb, ne-eqb, eqb-true}
-use lib.Dec.{eqb, ltb}
+use lib.Dec.{eqb}
 use lib.ListN.{length, getD, set}
-use Rattle.model.specs.Calls.{Or, no, ok, need, pass, gripOn, grip, occupied-get, after-set, occupied-remove, after-drop, acted}
+use Rattle.model.specs.Calls.{Or, no, ok, need, pass, gripOn, grip, occupied-get, after-set, acted}
 use Rattle.model.proofs.Cases.{both, by-bool, by-lt}
 use Rattle.answers.specs.declared.Refusal.{Refusal}
-use Rattle.answers.specs.declared.Refusal.the-variants.{Sizes, LongKey, Damaged, BadHandle}
+use Rattle.answers.specs.declared.Refusal.the-variants.{Sizes, LongKey, BadHandle}
 use Rattle.answers.specs.Refusals.{numberOf}
-use Rattle.answers.specs.Said.{heldSaid, swappedSaid, takenSaid}
+use Rattle.answers.specs.Said.{heldSaid, swappedSaid}
 use Rattle.kinds.specs.declared.Sight.{Sight}
 use Rattle.kinds.specs.declared.Sight.the-variants.{Never, Bad, Same, On}
-use Rattle.kinds.specs.Calls.{heldOf, setOf, takenOf}
+use Rattle.kinds.specs.Calls.{heldOf, setOf}
 use Rattle.kinds.specs.Columns.{values}
 use Rattle.kinds.specs.Marks.{cell}
 use Rattle.kinds.specs.Probing.{lookAt, lookOf}
@@ -23,7 +23,7 @@ use Rattle.kinds.specs.Told.{told}
 use Rattle.spans.specs.Keys.{sameBytes}
 use Rattle.spans.specs.Kinds.{maps}
 use Rattle.spans.specs.Marks.{markAt}
-use Rattle.spans.specs.Memory.{Spans, Strings, keyAt, fitting, askedOf}
+use Rattle.spans.specs.Memory.{Strings, keyAt, fitting, askedOf}
 use Rattle.spans.specs.Probing.{sightAt}
 use Rattle.spans.proofs.Bridge.{asked-no}
 use Rattle.spans.proofs.Marks.{slot-cell}

@@ -1,13 +1,13 @@
--- Entry, and vacant handles: what the plan of a storing call says of where a key would go.
+-- Entry: what the plan of a storing call says of where a key stands or would go.
 use Prim.Native.Nat.{ℕ, _<_}
 use mathlib.Core.Bool.{Bool, true, false}
 use mathlib.Core.List.{List}
-use mathlib.Core.Path.{_≡_, refl, sym, _∙_}
+use mathlib.Core.Path.{_≡_, sym, _∙_}
 use native.Mathlib.Omega.{arith}
 use borrow.Author.Tests.{eq-eqb, ne-eqb, eqb-true}
 use lib.Dec.{eqb}
 use lib.ListN.{length, getD}
-use Rattle.model.specs.Calls.{Or, no, ok, need, entry}
+use Rattle.model.specs.Calls.{no, entry}
 use Rattle.model.proofs.Cases.{by-bool}
 use Rattle.digest.proofs.Bounds.{home-below}
 use Rattle.answers.specs.declared.Refusal.{Refusal}
@@ -21,7 +21,7 @@ use Rattle.kinds.proofs.Bridge.{hit-below}
 use Rattle.spans.specs.declared.Placed.{Placed}
 use Rattle.spans.specs.declared.Placed.the-variants as placed
 use Rattle.spans.specs.Kinds.{maps}
-use Rattle.spans.specs.Memory.{Spans, Strings, harmful, fitting, usedOf, keptOf}
+use Rattle.spans.specs.Memory.{Strings, harmful, fitting, usedOf, keptOf}
 use Rattle.spans.specs.Planning.{placedBy, roomFor, placing}
 use Rattle.spans.specs.Probing.{pathOf}
 use Rattle.spans.proofs.Sizes.{fitting-says}

@@ -1,5 +1,4 @@
 -- The numbers that the paper prints for the answers of entries and handles.
-use Prim.Native.Nat.{ℕ}
 use Rattle.answers.specs.declared.Numbers.{Numbers}
 use Rattle.answers.specs.Numbers.{refusalNumbers}
 use Rattle.answers.specs.Said.{saidCase}

@@ -1,7 +1,7 @@
 -- The plans of the calls of entries and handles: their tests in order, then what a slot or the path says.
+use Prim.Native.Nat.{ℕ}
 use mathlib.Core.Bool.{Bool, cond, _&&_}
 use mathlib.Core.List.{List}
-use Prim.Native.Nat.{ℕ}
 use lib.Dec.{eqb, ltb}
 use lib.ListN.{length, getD}
 use Rattle.answers.specs.declared.Refusal.the-variants as refusal

@@ -1,5 +1,4 @@
 -- `byte_entry::grip` meets its contract: the slot number, then the look at the slot.
-use native.Mathlib.Omega.{arith}
 use Rattle.byte_entry.proofs.Grips.{grip-look, grip-beyond}
 use borrow.Author.Needs.{needs}
 use Rattle.byte_entry.proofs.grip.Statement.{statement}
