@@ -1,0 +1,2 @@
+-- The laws of the byte map's union.
+pub mod Needing

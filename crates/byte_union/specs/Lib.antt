@@ -1,0 +1,2 @@
+-- The definitions of the byte map's union.
+pub mod Needs

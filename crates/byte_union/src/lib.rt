@@ -1,0 +1,66 @@
+// The union of byte maps: every test over both tables first, then the right's pairs go into the left.
+ghost use mathlib.Core.Path.{_≡_};
+ghost use mathlib.Core.Bool.{true};
+ghost use Prim.Native.Nat.{_≤_};
+ghost use lib.ListN.{length};
+ghost use Rattle.spans.specs.Memory.{spansOf, fitting};
+ghost use Rattle.byte_union.specs.Needs.{neededBy, lackAt, lacksOf, planned, roomOf};
+use answers::Refusal;
+use kinds::Probed;
+use kinds::Scanned;
+use spans::Surveyed;
+use spans::byte_at;
+use spans::mark_at;
+use spans::offset_at;
+use spans::probe;
+use spans::scan;
+use spans::survey;
+
+// What the left has to have room for: so many slots, and so many bytes.
+pub struct Needed {
+    pub slots: usize,
+    pub bytes: usize,
+}
+
+// The union's plan: to store, with the left's `used`, or a refusal.
+pub enum Planned {
+    Go(usize),
+    Refused(Refusal),
+}
+
+// What a key of this length needs, by how its path in the left ended.
+fn needed_by(found: Probed, len: usize) -> Needed
+    ensures { λ r. ⌜ r ≡ neededBy found len ⌝ }
+{
+    match found {
+        Probed::Hit(_, _) => Needed { slots: 0, bytes: 0 },
+        Probed::Free(_, _) => Needed { slots: 1, bytes: len },
+        Probed::Full(_) => Needed { slots: 1, bytes: len },
+        Probed::Refused(_) => Needed { slots: 1, bytes: len },
+    }
+}
+
+// What slot i of the right needs: a slot and its key's bytes, where it is live and its key is absent in the left.
+fn lack(
+    marks: &[u8],
+    offsets: &[u16],
+    lengths: &[u8],
+    arena: &[u8],
+    right_marks: &[u8],
+    right_offsets: &[u16],
+    right_lengths: &[u8],
+    right_arena: &[u8],
+    i: usize,
+) -> Needed
+    requires { ⌜ fitting (spansOf (now marks) (now offsets) (now lengths) (now arena)) ≡ true ⌝ }
+    ensures { λ r. ⌜ (r ≡ lackAt (spansOf (now (marks .entry)) (now (offsets .entry)) (now (lengths .entry)) (now (arena .entry))) (spansOf (now («right_marks» .entry)) (now («right_offsets» .entry)) (now («right_lengths» .entry)) (now («right_arena» .entry))) i) × (r .slots ≤ 1) × (r .bytes ≤ 255) ⌝ }
+{
+    if mark_at(right_marks, right_offsets, right_lengths, right_arena, i) == 1 {
+        let start = offset_at(right_offsets, i) as usize;
+        let len = byte_at(right_lengths, i) as usize;
+        let end = start + len;
+        let seen = probe(marks, offsets, lengths, arena, &right_arena[start..end]);
+        return needed_by(seen, len);
+    }
+    Needed { slots: 0, bytes: 0 }
+}
