@@ -1,2 +1,3 @@
 -- The laws of the byte map's union.
 pub mod Needing
+pub mod Rooms

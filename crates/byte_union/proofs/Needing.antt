@@ -73,3 +73,30 @@ module _ (l r : Spans) (i : ℕ) {m : ℕ} (p : m ≡ markAt r i) where
       let z : length k ≡ n = span-length r i p one q w in
       let y : s ≡ pathOf l k = probed-path l k f (omega arith) (e ∙ (rw (span-key r i p one q w))) in
       rw d (rw (span-bare r i p one q w, ← y, z), by-bool (missing s) (λ t. rw t (omega arith)) (λ t. rw t (omega arith)), by-bool (missing s) (λ t. rw t (omega arith)) (λ t. rw t (omega arith)))
+
+-- the count's state: the needs of the first i slots
+pub record Needing (l r : Spans) (slots bytes i : ℕ) : Type 0 where
+  pub within : i ≤ length (r .marks)
+  pub few : slots ≤ i
+  pub little : bytes ≤ 255 * i
+  pub slots-are : slots ≡ lacksOf l r i .slots
+  pub bytes-are : bytes ≡ lacksOf l r i .bytes
+
+pub need-start : (l r : Spans) → Needing l r 0 0 0
+unfolding lacksOf total
+need-start l r = record { within = omega arith; few = omega arith; little = omega arith; slots-are = refl; bytes-are = refl }
+
+module _ {l r : Spans} {slots bytes i : ℕ} (w : Needing l r slots bytes i) where
+  pub need-more : {x : Needed} → i < length (r .marks) → Lacked l r i x → Needing l r (slots + x .slots) (bytes + x .bytes) (i + 1)
+  unfolding lacksOf lackAt total
+  need-more {x} b (e, s, t) = record {
+    within = omega arith;
+    few = omega (arith, w .few);
+    little = omega (arith, w .little);
+    slots-are = rw (add-one, e, w .slots-are);
+    bytes-are = rw (add-one, e, w .bytes-are);
+  }
+
+  pub need-end : length (r .marks) ≤ i → record { slots = slots; bytes = bytes } ≡ lacksOf l r (length (r .marks))
+  unfolding lacksOf
+  need-end b = let e : length (r .marks) ≡ i = omega arith in rw (e, w .slots-are, w .bytes-are)

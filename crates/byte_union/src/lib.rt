@@ -64,3 +64,84 @@ fn lack(
     }
     Needed { slots: 0, bytes: 0 }
 }
+
+// What the right needs of the left, over all its slots.
+fn lacks(
+    marks: &[u8],
+    offsets: &[u16],
+    lengths: &[u8],
+    arena: &[u8],
+    right_marks: &[u8],
+    right_offsets: &[u16],
+    right_lengths: &[u8],
+    right_arena: &[u8],
+) -> Needed
+    requires { ⌜ (fitting (spansOf (now marks) (now offsets) (now lengths) (now arena)) ≡ true) × (length (now «right_marks») ≤ 4096) ⌝ }
+    ensures { λ r. ⌜ r ≡ lacksOf (spansOf (now (marks .entry)) (now (offsets .entry)) (now (lengths .entry)) (now (arena .entry))) (spansOf (now («right_marks» .entry)) (now («right_offsets» .entry)) (now («right_lengths» .entry)) (now («right_arena» .entry))) (length (now («right_marks» .entry))) ⌝ }
+{
+    let mut slots = 0;
+    let mut bytes = 0;
+    let mut i = 0;
+    while i < right_marks.len() {
+        let more = lack(
+            marks,
+            offsets,
+            lengths,
+            arena,
+            right_marks,
+            right_offsets,
+            right_lengths,
+            right_arena,
+            i,
+        );
+        slots += more.slots;
+        bytes += more.bytes;
+        i += 1;
+    }
+    Needed { slots, bytes }
+}
+
+// The union's tests of two tables of right sizes: damage in either, then slots, then bytes.
+fn room(
+    marks: &[u8],
+    offsets: &[u16],
+    lengths: &[u8],
+    arena: &[u8],
+    right_marks: &[u8],
+    right_offsets: &[u16],
+    right_lengths: &[u8],
+    right_arena: &[u8],
+) -> Planned
+    requires { ⌜ (fitting (spansOf (now marks) (now offsets) (now lengths) (now arena)) ≡ true) × (length (now «right_marks») ≤ 4096) ⌝ }
+    ensures { λ r. ⌜ planned r ≡ roomOf (spansOf (now (marks .entry)) (now (offsets .entry)) (now (lengths .entry)) (now (arena .entry))) (spansOf (now («right_marks» .entry)) (now («right_offsets» .entry)) (now («right_lengths» .entry)) (now («right_arena» .entry))) ⌝ }
+{
+    let found = survey(marks, offsets, lengths, arena);
+    let Surveyed::Used(used) = found else {
+        return Planned::Refused(Refusal::Damaged);
+    };
+    let other = survey(right_marks, right_offsets, right_lengths, right_arena);
+    let Surveyed::Used(_) = other else {
+        return Planned::Refused(Refusal::Damaged);
+    };
+    let seen = scan(marks, offsets, lengths, arena);
+    let Scanned::Live(live) = seen else {
+        return Planned::Refused(Refusal::Damaged);
+    };
+    let needed = lacks(
+        marks,
+        offsets,
+        lengths,
+        arena,
+        right_marks,
+        right_offsets,
+        right_lengths,
+        right_arena,
+    );
+    if needed.slots <= marks.len() - live {
+        if needed.bytes <= arena.len() - used {
+            return Planned::Go(used);
+        }
+        return Planned::Refused(Refusal::NoBytes);
+    }
+    Planned::Refused(Refusal::NoSlot)
+}
