@@ -1,3 +1,4 @@
 -- The laws of the byte map's union.
 pub mod Needing
 pub mod Rooms
+pub mod Plans

@@ -5,11 +5,13 @@ use mathlib.Core.List.{List}
 use lib.Dec.{leb}
 use lib.ListN.{length}
 use Rattle.model.specs.Slots.{weigh, total, count}
-use Rattle.model.specs.Calls.{Or, no, ok, need}
+use Rattle.model.specs.Calls.{Or, no, ok, need, give, union}
 use Rattle.answers.specs.Refusals.{numberOf}
 use Rattle.kinds.specs.declared.Probed.{Probed}
 use Rattle.kinds.specs.declared.Probed.the-variants as probed
-use Rattle.spans.specs.Memory.{Spans, bare, usedOf, harmful}
+use Rattle.kinds.specs.Columns.{values}
+use Rattle.spans.specs.Memory.{Spans, Strings, bare, usedOf, harmful}
+use Rattle.spans.specs.Kinds.{maps}
 use Rattle.spans.specs.Probing.{pathOf}
 use Rattle.byte_union.specs.declared.Needed.{Needed}
 use Rattle.byte_union.specs.declared.Planned.{Planned}
@@ -50,3 +52,11 @@ module _ (l r : Spans) where
 unfoldable pub planned : Planned → Or ℕ
 planned (Go u) = ok u
 planned (Refused x) = no (numberOf x)
+
+-- Whether a map is of right sizes.
+unfoldable pub fittingMap : Strings values → Bool
+fittingMap m = maps .sized m
+
+-- The union's tests: its answer, with the left's `used` where it is accepted.
+unfoldable pub planOf : Strings values → Strings values → Or ℕ
+planOf l r = give (usedOf (l .spans)) (union maps l r)

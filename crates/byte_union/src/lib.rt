@@ -4,12 +4,14 @@ ghost use mathlib.Core.Bool.{true};
 ghost use Prim.Native.Nat.{_≤_};
 ghost use lib.ListN.{length};
 ghost use Rattle.spans.specs.Memory.{spansOf, fitting};
-ghost use Rattle.byte_union.specs.Needs.{neededBy, lackAt, lacksOf, planned, roomOf};
+ghost use Rattle.spans.specs.Kinds.{mapMemory};
+ghost use Rattle.byte_union.specs.Needs.{neededBy, lackAt, lacksOf, planned, roomOf, fittingMap, planOf};
 use answers::Refusal;
 use kinds::Probed;
 use kinds::Scanned;
 use spans::Surveyed;
 use spans::byte_at;
+use spans::fits;
 use spans::mark_at;
 use spans::offset_at;
 use spans::probe;
@@ -144,4 +146,53 @@ fn room(
         return Planned::Refused(Refusal::NoBytes);
     }
     Planned::Refused(Refusal::NoSlot)
+}
+
+// Whether a map's lent arrays are of right sizes.
+fn map_fits(marks: &[u8], offsets: &[u16], lengths: &[u8], values: &[u64], arena: &[u8]) -> bool
+    ensures { λ r. ⌜ r ≡ fittingMap (mapMemory (now (marks .entry)) (now (offsets .entry)) (now (lengths .entry)) (now (values .entry)) (now (arena .entry))) ⌝ }
+{
+    if fits(marks, offsets, lengths, arena) {
+        return marks.len() == values.len();
+    }
+    false
+}
+
+// The union's tests.
+fn plan(
+    marks: &[u8],
+    offsets: &[u16],
+    lengths: &[u8],
+    values: &[u64],
+    arena: &[u8],
+    right_marks: &[u8],
+    right_offsets: &[u16],
+    right_lengths: &[u8],
+    right_values: &[u64],
+    right_arena: &[u8],
+) -> Planned
+    ensures { λ r. ⌜ planned r ≡ planOf (mapMemory (now (marks .entry)) (now (offsets .entry)) (now (lengths .entry)) (now (values .entry)) (now (arena .entry))) (mapMemory (now («right_marks» .entry)) (now («right_offsets» .entry)) (now («right_lengths» .entry)) (now («right_values» .entry)) (now («right_arena» .entry))) ⌝ }
+{
+    if map_fits(marks, offsets, lengths, values, arena) {
+        if map_fits(
+            right_marks,
+            right_offsets,
+            right_lengths,
+            right_values,
+            right_arena,
+        ) {
+            return room(
+                marks,
+                offsets,
+                lengths,
+                arena,
+                right_marks,
+                right_offsets,
+                right_lengths,
+                right_arena,
+            );
+        }
+        return Planned::Refused(Refusal::Sizes);
+    }
+    Planned::Refused(Refusal::Sizes)
 }
