@@ -2,3 +2,4 @@
 pub mod Needing
 pub mod Rooms
 pub mod Plans
+pub mod Storing

@@ -3,10 +3,13 @@ ghost use mathlib.Core.Path.{_≡_};
 ghost use mathlib.Core.Bool.{true};
 ghost use Prim.Native.Nat.{_≤_};
 ghost use lib.ListN.{length};
-ghost use Rattle.spans.specs.Memory.{spansOf, fitting};
-ghost use Rattle.spans.specs.Kinds.{mapMemory};
+ghost use Rattle.model.specs.Calls.{rule};
+ghost use Rattle.spans.specs.Memory.{spansOf, fitting, usedOf};
+ghost use Rattle.spans.specs.Kinds.{maps, mapMemory};
 ghost use Rattle.byte_union.specs.Needs.{neededBy, lackAt, lacksOf, planned, roomOf, fittingMap, planOf};
+ghost use Rattle.byte_union.specs.Stores.{Storable};
 use answers::Refusal;
+use arena::fill;
 use kinds::Probed;
 use kinds::Scanned;
 use spans::Surveyed;
@@ -195,4 +198,34 @@ fn plan(
         return Planned::Refused(Refusal::Sizes);
     }
     Planned::Refused(Refusal::Sizes)
+}
+
+// The insert rule with no test: the key's value changes in its slot, or the first free slot of its path takes the key. The bytes used then.
+fn store(
+    marks: &mut [u8],
+    offsets: &mut [u16],
+    lengths: &mut [u8],
+    values: &mut [u64],
+    arena: &mut [u8],
+    key: &[u8],
+    value: u64,
+    used: usize,
+) -> usize
+    requires { ⌜ Storable (mapMemory (now marks) (now offsets) (now lengths) (now values) (now arena)) used (now key) value ⌝ }
+    ensures { λ r. ⌜ (mapMemory (now (marks .exit)) (now (offsets .exit)) (now (lengths .exit)) (now (values .exit)) (now (arena .exit)) ≡ rule maps (mapMemory (now (marks .entry)) (now (offsets .entry)) (now (lengths .entry)) (now (values .entry)) (now (arena .entry))) (now (key .entry)) value) × (r ≡ usedOf (spansOf (now (marks .exit)) (now (offsets .exit)) (now (lengths .exit)) (now (arena .exit)))) ⌝ }
+{
+    let seen = probe(marks, offsets, lengths, arena, key);
+    match seen {
+        Probed::Hit(slot, _) => {
+            values[slot] = value;
+            return used;
+        }
+        Probed::Free(slot, _) => {
+            fill(marks, offsets, lengths, arena, slot, used, key);
+            values[slot] = value;
+            return used + key.len();
+        }
+        Probed::Full(_) => return used,
+        Probed::Refused(_) => return used,
+    }
 }
