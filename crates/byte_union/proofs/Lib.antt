@@ -3,3 +3,4 @@ pub mod Needing
 pub mod Rooms
 pub mod Plans
 pub mod Storing
+pub mod Turns

@@ -21,10 +21,17 @@ pub record Storable (m : Strings values) (u : ℕ) (k : List ℕ) (v : ℕ) : Ty
   pub ready : Ready m u ((k, v) ∷ [])
   pub short : length k ≤ keyLimit
 
--- The insert rule for the pair of the slot i of the right, where it is live.
+-- The pair of the slot i, where it is live, and the pairs of the first n slots.
+unfoldable pub pairAt : Strings values → ℕ → List (List ℕ × ℕ)
+pairAt m i = pairOf (maps .slots m i)
+
+unfoldable pub pairsOf : Strings values → ℕ → List (List ℕ × ℕ)
+pairsOf m n = pairs (maps .slots m) n
+
+-- The insert rule for the pair of the slot i of the right.
 unfoldable pub slotStored : Strings values → Strings values → ℕ → Strings values
-slotStored l r i = storeAll maps l (pairOf (maps .slots r i))
+slotStored l r i = storeAll maps l (pairAt r i)
 
 -- The insert rule for the pairs of the first n slots of the right.
 unfoldable pub allStored : Strings values → Strings values → ℕ → Strings values
-allStored l r n = storeAll maps l (pairs (maps .slots r) n)
+allStored l r n = storeAll maps l (pairsOf r n)

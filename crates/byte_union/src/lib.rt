@@ -1,13 +1,13 @@
 // The union of byte maps: every test over both tables first, then the right's pairs go into the left.
 ghost use mathlib.Core.Path.{_≡_};
 ghost use mathlib.Core.Bool.{true};
-ghost use Prim.Native.Nat.{_≤_};
+ghost use Prim.Native.Nat.{_≤_, _<_};
 ghost use lib.ListN.{length};
 ghost use Rattle.model.specs.Calls.{rule};
 ghost use Rattle.spans.specs.Memory.{spansOf, fitting, usedOf};
 ghost use Rattle.spans.specs.Kinds.{maps, mapMemory};
 ghost use Rattle.byte_union.specs.Needs.{neededBy, lackAt, lacksOf, planned, roomOf, fittingMap, planOf};
-ghost use Rattle.byte_union.specs.Stores.{Storable};
+ghost use Rattle.byte_union.specs.Stores.{Ready, Storable, pairAt, slotStored};
 use answers::Refusal;
 use arena::fill;
 use kinds::Probed;
@@ -228,4 +228,40 @@ fn store(
         Probed::Full(_) => return used,
         Probed::Refused(_) => return used,
     }
+}
+
+// The insert rule for slot i of the right, where it is live. The bytes used then.
+fn store_slot(
+    marks: &mut [u8],
+    offsets: &mut [u16],
+    lengths: &mut [u8],
+    values: &mut [u64],
+    arena: &mut [u8],
+    right_marks: &[u8],
+    right_offsets: &[u16],
+    right_lengths: &[u8],
+    right_values: &[u64],
+    right_arena: &[u8],
+    i: usize,
+    used: usize,
+) -> usize
+    requires { ⌜ Ready (mapMemory (now marks) (now offsets) (now lengths) (now values) (now arena)) used (pairAt (mapMemory (now «right_marks») (now «right_offsets») (now «right_lengths») (now «right_values») (now «right_arena»)) i) × (i < length (now «right_values»)) ⌝ }
+    ensures { λ r. ⌜ (mapMemory (now (marks .exit)) (now (offsets .exit)) (now (lengths .exit)) (now (values .exit)) (now (arena .exit)) ≡ slotStored (mapMemory (now (marks .entry)) (now (offsets .entry)) (now (lengths .entry)) (now (values .entry)) (now (arena .entry))) (mapMemory (now («right_marks» .entry)) (now («right_offsets» .entry)) (now («right_lengths» .entry)) (now («right_values» .entry)) (now («right_arena» .entry))) i) × (r ≡ usedOf (spansOf (now (marks .exit)) (now (offsets .exit)) (now (lengths .exit)) (now (arena .exit)))) ⌝ }
+{
+    if mark_at(right_marks, right_offsets, right_lengths, right_arena, i) == 1 {
+        let start = offset_at(right_offsets, i) as usize;
+        let len = byte_at(right_lengths, i) as usize;
+        let end = start + len;
+        return store(
+            marks,
+            offsets,
+            lengths,
+            values,
+            arena,
+            &right_arena[start..end],
+            right_values[i],
+            used,
+        );
+    }
+    used
 }
