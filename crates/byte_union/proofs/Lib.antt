@@ -4,3 +4,5 @@ pub mod Rooms
 pub mod Plans
 pub mod Storing
 pub mod Turns
+pub mod Joining
+pub mod Settled

@@ -4,10 +4,14 @@ ghost use mathlib.Core.Bool.{true};
 ghost use Prim.Native.Nat.{_≤_, _<_};
 ghost use lib.ListN.{length};
 ghost use Rattle.model.specs.Calls.{rule};
+ghost use Rattle.answers.specs.Numbers.{outcomeNumbers};
+ghost use Rattle.kinds.specs.Calls.{unionOf};
+ghost use Rattle.kinds.specs.Told.{told};
 ghost use Rattle.spans.specs.Memory.{spansOf, fitting, usedOf};
 ghost use Rattle.spans.specs.Kinds.{maps, mapMemory};
 ghost use Rattle.byte_union.specs.Needs.{neededBy, lackAt, lacksOf, planned, roomOf, fittingMap, planOf};
-ghost use Rattle.byte_union.specs.Stores.{Ready, Storable, pairAt, slotStored};
+ghost use Rattle.byte_union.specs.Stores.{Ready, Storable, pairAt, pairsOf, slotStored, allStored};
+use answers::Outcome;
 use answers::Refusal;
 use arena::fill;
 use kinds::Probed;
@@ -39,9 +43,18 @@ fn needed_by(found: Probed, len: usize) -> Needed
 {
     match found {
         Probed::Hit(_, _) => Needed { slots: 0, bytes: 0 },
-        Probed::Free(_, _) => Needed { slots: 1, bytes: len },
-        Probed::Full(_) => Needed { slots: 1, bytes: len },
-        Probed::Refused(_) => Needed { slots: 1, bytes: len },
+        Probed::Free(_, _) => Needed {
+            slots: 1,
+            bytes: len,
+        },
+        Probed::Full(_) => Needed {
+            slots: 1,
+            bytes: len,
+        },
+        Probed::Refused(_) => Needed {
+            slots: 1,
+            bytes: len,
+        },
     }
 }
 
@@ -264,4 +277,90 @@ fn store_slot(
         );
     }
     used
+}
+
+// The right's pairs go into the left by the insert rule, in the right's slot order.
+fn store_all(
+    marks: &mut [u8],
+    offsets: &mut [u16],
+    lengths: &mut [u8],
+    values: &mut [u64],
+    arena: &mut [u8],
+    right_marks: &[u8],
+    right_offsets: &[u16],
+    right_lengths: &[u8],
+    right_values: &[u64],
+    right_arena: &[u8],
+    used: usize,
+)
+    requires { ⌜ Ready (mapMemory (now marks) (now offsets) (now lengths) (now values) (now arena)) used (pairsOf (mapMemory (now «right_marks») (now «right_offsets») (now «right_lengths») (now «right_values») (now «right_arena»)) (length (now «right_marks»))) × (length (now «right_values») ≡ length (now «right_marks»)) × (length (now «right_marks») ≤ 4096) ⌝ }
+    ensures { λ r. ⌜ mapMemory (now (marks .exit)) (now (offsets .exit)) (now (lengths .exit)) (now (values .exit)) (now (arena .exit)) ≡ allStored (mapMemory (now (marks .entry)) (now (offsets .entry)) (now (lengths .entry)) (now (values .entry)) (now (arena .entry))) (mapMemory (now («right_marks» .entry)) (now («right_offsets» .entry)) (now («right_lengths» .entry)) (now («right_values» .entry)) (now («right_arena» .entry))) (length (now («right_marks» .entry))) ⌝ }
+{
+    let mut end = used;
+    let mut i = 0;
+    while i < right_marks.len() {
+        end = store_slot(
+            marks,
+            offsets,
+            lengths,
+            values,
+            arena,
+            right_marks,
+            right_offsets,
+            right_lengths,
+            right_values,
+            right_arena,
+            i,
+            end,
+        );
+        i += 1;
+    }
+}
+
+// Puts the right's pairs into the left, where its slots and bytes suffice for all; the right stays as it was.
+pub fn union_prefer_right(
+    marks: &mut [u8],
+    offsets: &mut [u16],
+    lengths: &mut [u8],
+    values: &mut [u64],
+    arena: &mut [u8],
+    right_marks: &[u8],
+    right_offsets: &[u16],
+    right_lengths: &[u8],
+    right_values: &[u64],
+    right_arena: &[u8],
+) -> Outcome
+    ensures { λ r. ⌜ told (outcomeNumbers r) (mapMemory (now (marks .exit)) (now (offsets .exit)) (now (lengths .exit)) (now (values .exit)) (now (arena .exit))) ≡ unionOf maps (mapMemory (now (marks .entry)) (now (offsets .entry)) (now (lengths .entry)) (now (values .entry)) (now (arena .entry))) (mapMemory (now («right_marks» .entry)) (now («right_offsets» .entry)) (now («right_lengths» .entry)) (now («right_values» .entry)) (now («right_arena» .entry))) ⌝ }
+{
+    let planned = plan(
+        marks,
+        offsets,
+        lengths,
+        values,
+        arena,
+        right_marks,
+        right_offsets,
+        right_lengths,
+        right_values,
+        right_arena,
+    );
+    match planned {
+        Planned::Go(used) => {
+            store_all(
+                marks,
+                offsets,
+                lengths,
+                values,
+                arena,
+                right_marks,
+                right_offsets,
+                right_lengths,
+                right_values,
+                right_arena,
+                used,
+            );
+            Outcome::Done
+        }
+        Planned::Refused(r) => Outcome::Refused(r),
+    }
 }

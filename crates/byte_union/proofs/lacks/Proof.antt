@@ -52,4 +52,3 @@ lacks-spec =
     loop-less
     loop-again
     returns)
-
