@@ -1,0 +1,8 @@
+-- The laws of the byte map's union.
+pub mod Needing
+pub mod Rooms
+pub mod Plans
+pub mod Storing
+pub mod Turns
+pub mod Joining
+pub mod Settled

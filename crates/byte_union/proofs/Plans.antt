@@ -1,0 +1,105 @@
+-- The union's tests over the spans are those of its definition.
+use Prim.Native.Nat.{ℕ, zero, suc, _-_, _≤_}
+use mathlib.Core.Bool.{Bool, true, false, cond, not, _&&_}
+use mathlib.Core.List.{List}
+use mathlib.Core.Path.{_≡_, refl, sym, _∙_, ap, fun-ext}
+use native.Mathlib.Omega.{arith}
+use borrow.Author.Tests.{leb-true}
+use lib.Dec.{ltb, leb, eqb}
+use lib.ListN.{length}
+use Rattle.model.specs.Slots.{weigh, total, count}
+use Rattle.model.specs.Path.{Find, hit, miss, hurt}
+use Rattle.model.specs.Store.{path, live-count, used, hurtful}
+use Rattle.model.specs.Calls.{Or, no, ok, need, give, missed, lacking, needs, ruined, union}
+use Rattle.model.proofs.Cases.{by-bool, both}
+use Rattle.answers.specs.declared.Refusal.the-variants.{Sizes}
+use Rattle.digest.specs.Home.{homeOf, slotsFit}
+use Rattle.kinds.specs.Columns.{values}
+use Rattle.kinds.specs.Marks.{cell}
+use Rattle.kinds.specs.Probing.{along}
+use Rattle.spans.specs.Memory.{Spans, Strings, arenaLimit, keyAt, slotsOf, bare, usedOf, harmful, fitting}
+use Rattle.spans.specs.Marks.{markAt}
+use Rattle.spans.specs.Kinds.{maps}
+use Rattle.spans.specs.Probing.{pathOf}
+use Rattle.spans.proofs.Bridge.{path-is, used-is}
+use Rattle.spans.proofs.Held.{bare-damaged, unharmed-whole}
+use Rattle.spans.proofs.Marks.{slot-cell}
+use Rattle.byte_union.specs.declared.Planned.{Planned}
+use Rattle.byte_union.specs.declared.Planned.the-variants.{Go, Refused}
+use Rattle.byte_union.specs.Needs.{missing, lackOf, lacksOf, roomOf, planned, fittingMap, planOf}
+
+-- right sizes: both tests, and few slots
+pub sized-fits : (m : Strings values) {b : Bool} → b ≡ fittingMap m → b ≡ true → fitting (m .spans) ≡ true
+unfolding fittingMap
+sized-fits m p q = both (fitting (m .spans)) (eqb (length (m .spans .marks)) (length (m .words))) (sym p ∙ q) .0
+
+pub few-slots : (s : Spans) → fitting s ≡ true → length (s .marks) ≤ 4096
+unfolding fitting
+few-slots s f =
+    let (a, b) = both (slotsFit (length (s .marks))) (eqb (length (s .marks)) (length (s .offsets)) && (eqb (length (s .marks)) (length (s .lengths)) && leb (length (s .arena)) arenaLimit)) f in
+    let (c, d) = both (ltb 0 (length (s .marks))) (leb (length (s .marks)) 4096) a in
+    leb-true (length (s .marks)) 4096 d
+
+-- a key is absent by its path exactly where the probing misses it
+missed-along : (S h : ℕ) (x : Find ℕ) → missed maps x ≡ missing (along S h x)
+unfolding missed along missing
+missed-along S h (hit n v) = refl
+missed-along S h (miss e f) = by-bool (ltb f S) (λ t. rw t) (λ t. rw t)
+missed-along S h hurt = refl
+
+lacking-is : (m : Strings values) (k : List ℕ) → lacking maps m k ≡ missing (pathOf (m .spans) k)
+unfolding lacking
+lacking-is m k = missed-along (length (m .spans .marks)) (homeOf 0 (length (m .spans .marks)) k) (path maps m k) ∙ ap missing (path-is values m k)
+
+-- sums over the slots are the same without the values
+weigh-bare : (g : List ℕ → ℕ) (m : ℕ) (k : List ℕ) (v : ℕ) → weigh g (cell m k v) ≡ weigh g (cell m k (tt {0}))
+unfolding weigh cell
+weigh-bare g zero k v = refl
+weigh-bare g (suc zero) k v = refl
+weigh-bare g (suc (suc zero)) k v = refl
+weigh-bare g (suc (suc (suc m))) k v = refl
+
+total-bare : (g : List ℕ → ℕ) (s : Spans) (read : ℕ → ℕ) (n : ℕ) → total g (slotsOf s read) n ≡ total g (bare s) n
+unfolding total
+total-bare g s read zero = refl
+total-bare g s read (suc n) = rw (total-bare g s read n, slot-cell s read n, slot-cell s (λ i. tt {0}) n, weigh-bare g (markAt s n) (keyAt s n) (read n))
+
+-- what the union needs, over the spans
+needs-are : (g : List ℕ → ℕ) (l r : Strings values) → needs maps g l r ≡ total (lackOf (l .spans) g) (bare (r .spans)) (length (r .spans .marks))
+unfolding needs lackOf
+needs-are g l r =
+    let e : _≡_ {A = List ℕ → ℕ} (λ k. cond (lacking maps l k) (g k) 0) (λ k. cond (missing (pathOf (l .spans) k)) (g k) 0) = fun-ext (λ k. rw (lacking-is l k)) in
+    rw e (total-bare (λ k. cond (missing (pathOf (l .spans) k)) (g k) 0) (r .spans) (values .read (r .words)) (length (r .spans .marks)))
+
+live-is : (m : Strings values) → live-count maps m ≡ count (bare (m .spans)) (length (m .spans .marks))
+unfolding live-count
+live-is m = total-bare (λ k. 1) (m .spans) (values .read (m .words)) (length (m .spans .marks))
+
+-- full damage is the damage that the union looks for
+ruined-is : (m : Strings values) → ruined maps m ≡ harmful (m .spans)
+unfolding ruined hurtful
+ruined-is m = by-bool (harmful (m .spans))
+    (λ h. rw h (by-bool (hurtful maps m) (λ t. rw t) (λ t. rw t)))
+    (λ h. rw (h, bare-damaged (m .spans) (values .read (m .words)) (length (m .spans .marks)), unharmed-whole (m .spans) h))
+
+-- an answer's value behind a test
+give-need : {A B : Type 0} (v : B) (b : Bool) (n : ℕ) (a : Or A) → give v (need b n a) ≡ need b n (give v a)
+unfolding give need
+give-need v true n a = refl
+give-need v false n a = refl
+
+module _ (l r : Strings values) {b : Bool} (p : b ≡ fittingMap l) where
+  -- sizes
+  pub left-unfit : b ≡ false → planned (Refused Sizes) ≡ planOf l r
+  unfolding planned planOf union need give fittingMap
+  left-unfit q = rw (sym p ∙ q)
+
+  module _ (q : b ≡ true) {c : Bool} (s : c ≡ fittingMap r) where
+    pub right-unfit : c ≡ false → planned (Refused Sizes) ≡ planOf l r
+    unfolding planned planOf union need give fittingMap
+    right-unfit t = rw (sym p ∙ q, sym s ∙ t)
+
+    -- the rest of the tests
+    pub room-plan : {o : Or ℕ} → c ≡ true → o ≡ roomOf (l .spans) (r .spans) → o ≡ planOf l r
+    unfolding planOf roomOf lacksOf union need give fittingMap
+    room-plan t e = e ∙ (rw (sym p ∙ q, sym s ∙ t, ruined-is l, ruined-is r, needs-are (λ k. 1) l r, needs-are length l r, live-is l, used-is values l, give-need, give-need, give-need, give-need))

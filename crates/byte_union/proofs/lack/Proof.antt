@@ -1,0 +1,64 @@
+-- `byte_union::lack` meets its contract: a live slot by how the path of its key ends in the left.
+use Prim.Native.Nat.{_≤_}
+use native.Mathlib.Omega.{arith}
+use borrow.Author.Needs.{needs}
+use Rattle.byte_union.proofs.Needing.{span-within, lack-idle, lack-live}
+use Rattle.byte_union.proofs.lack.Statement.{statement}
+use Rattle.byte_union.proofs.lack.Tie as tie
+
+mark-at-requires : tie.Need-mark-at-requires
+mark-at-requires c κs = search needs
+
+offset-at-requires : tie.Need-offset-at-requires
+offset-at-requires c κs = search needs
+
+cast-start : tie.Need-cast-start
+cast-start c = search needs
+
+byte-at-requires : tie.Need-byte-at-requires
+byte-at-requires c κs = search needs
+
+cast-len : tie.Need-cast-len
+cast-len c = search needs
+
+add-end : tie.Need-add-end
+add-end c = search needs
+
+sub-probe : tie.Need-sub-probe
+sub-probe c = search needs
+
+part-probe-start : tie.Need-part-probe-start
+part-probe-start c = search needs
+
+part-probe-end : tie.Need-part-probe-end
+part-probe-end c = span-within _ _ (c .before .before .before .mark-at .ensures) (c .before .before .if1 .taken) (c .before .offset-at .ensures) (c .byte-at .ensures)
+
+probe-requires : tie.Need-probe-requires
+probe-requires c κs = search needs
+
+needed-by-requires : tie.Need-needed-by-requires
+needed-by-requires c κs = search needs
+
+returns : tie.Need-returns
+returns c = lack-live _ _ _ (c .before .before .before .before .before .before .mark-at .ensures) (c .before .before .before .before .before .if1 .taken) (c .before .before .before .before .offset-at .ensures) (c .before .before .before .byte-at .ensures) (search needs) (c .before .before .before .before .before .before .before .before .before .before .before .before .before .before .before .pre) (c .before .probe .ensures) (c .needed-by .ensures)
+
+returns-2 : tie.Need-returns-2
+returns-2 c = lack-idle _ _ _ (c .before .mark-at .ensures) (c .if1 .left)
+
+pub lack-spec : {M : Type 1} → statement M
+lack-spec =
+    tie.close
+    (tie.spec
+    mark-at-requires
+    offset-at-requires
+    cast-start
+    byte-at-requires
+    cast-len
+    add-end
+    sub-probe
+    part-probe-start
+    part-probe-end
+    probe-requires
+    needed-by-requires
+    returns
+    returns-2)

@@ -1,0 +1,28 @@
+-- `byte_union::plan` meets its contract: the sizes of both, then damage and room.
+use borrow.Author.Needs.{needs}
+use Rattle.byte_union.proofs.Plans.{sized-fits, few-slots, left-unfit, right-unfit, room-plan}
+use Rattle.byte_union.proofs.plan.Statement.{statement}
+use Rattle.byte_union.proofs.plan.Tie as tie
+
+map-fits-requires : tie.Need-map-fits-requires
+map-fits-requires c κs = search needs
+
+map-fits-requires-2 : tie.Need-map-fits-requires-2
+map-fits-requires-2 c κs = search needs
+
+room-requires : tie.Need-room-requires
+room-requires c κs = (sized-fits _ (c .before .before .before .map-fits .ensures) (c .before .before .if1 .taken), few-slots _ (sized-fits _ (c .before .map-fits2 .ensures) (c .if2 .taken)))
+
+returns : tie.Need-returns
+returns c = room-plan _ _ (c .before .before .before .before .map-fits .ensures) (c .before .before .before .if1 .taken) (c .before .before .map-fits2 .ensures) (c .before .if2 .taken) (c .room .ensures)
+
+returns-2 : tie.Need-returns-2
+returns-2 c = right-unfit _ _ (c .before .before .before .map-fits .ensures) (c .before .before .if1 .taken) (c .before .map-fits2 .ensures) (c .if2 .left)
+
+returns-3 : tie.Need-returns-3
+returns-3 c = left-unfit _ _ (c .before .map-fits .ensures) (c .if1 .left)
+
+pub plan-spec : {M : Type 1} → statement M
+plan-spec =
+    tie.close
+    (tie.spec map-fits-requires map-fits-requires-2 room-requires returns returns-2 returns-3)

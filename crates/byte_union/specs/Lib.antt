@@ -1,0 +1,3 @@
+-- The definitions of the byte map's union.
+pub mod Needs
+pub mod Stores

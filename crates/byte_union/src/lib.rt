@@ -1,0 +1,366 @@
+// The union of byte maps: every test over both tables first, then the right's pairs go into the left.
+ghost use mathlib.Core.Path.{_≡_};
+ghost use mathlib.Core.Bool.{true};
+ghost use Prim.Native.Nat.{_≤_, _<_};
+ghost use lib.ListN.{length};
+ghost use Rattle.model.specs.Calls.{rule};
+ghost use Rattle.answers.specs.Numbers.{outcomeNumbers};
+ghost use Rattle.kinds.specs.Calls.{unionOf};
+ghost use Rattle.kinds.specs.Told.{told};
+ghost use Rattle.spans.specs.Memory.{spansOf, fitting, usedOf};
+ghost use Rattle.spans.specs.Kinds.{maps, mapMemory};
+ghost use Rattle.byte_union.specs.Needs.{neededBy, lackAt, lacksOf, planned, roomOf, fittingMap, planOf};
+ghost use Rattle.byte_union.specs.Stores.{Ready, Storable, pairAt, pairsOf, slotStored, allStored};
+use answers::Outcome;
+use answers::Refusal;
+use arena::fill;
+use kinds::Probed;
+use kinds::Scanned;
+use spans::Surveyed;
+use spans::byte_at;
+use spans::fits;
+use spans::mark_at;
+use spans::offset_at;
+use spans::probe;
+use spans::scan;
+use spans::survey;
+
+// What the left has to have room for: so many slots, and so many bytes.
+pub struct Needed {
+    pub slots: usize,
+    pub bytes: usize,
+}
+
+// The union's plan: to store, with the left's `used`, or a refusal.
+pub enum Planned {
+    Go(usize),
+    Refused(Refusal),
+}
+
+// What a key of this length needs, by how its path in the left ended.
+fn needed_by(found: Probed, len: usize) -> Needed
+    ensures { λ r. ⌜ r ≡ neededBy found len ⌝ }
+{
+    match found {
+        Probed::Hit(_, _) => Needed { slots: 0, bytes: 0 },
+        Probed::Free(_, _) => Needed {
+            slots: 1,
+            bytes: len,
+        },
+        Probed::Full(_) => Needed {
+            slots: 1,
+            bytes: len,
+        },
+        Probed::Refused(_) => Needed {
+            slots: 1,
+            bytes: len,
+        },
+    }
+}
+
+// What slot i of the right needs: a slot and its key's bytes, where it is live and its key is absent in the left.
+fn lack(
+    marks: &[u8],
+    offsets: &[u16],
+    lengths: &[u8],
+    arena: &[u8],
+    right_marks: &[u8],
+    right_offsets: &[u16],
+    right_lengths: &[u8],
+    right_arena: &[u8],
+    i: usize,
+) -> Needed
+    requires { ⌜ fitting (spansOf (now marks) (now offsets) (now lengths) (now arena)) ≡ true ⌝ }
+    ensures { λ r. ⌜ (r ≡ lackAt (spansOf (now (marks .entry)) (now (offsets .entry)) (now (lengths .entry)) (now (arena .entry))) (spansOf (now («right_marks» .entry)) (now («right_offsets» .entry)) (now («right_lengths» .entry)) (now («right_arena» .entry))) i) × (r .slots ≤ 1) × (r .bytes ≤ 255) ⌝ }
+{
+    if mark_at(right_marks, right_offsets, right_lengths, right_arena, i) == 1 {
+        let start = offset_at(right_offsets, i) as usize;
+        let len = byte_at(right_lengths, i) as usize;
+        let end = start + len;
+        let seen = probe(marks, offsets, lengths, arena, &right_arena[start..end]);
+        return needed_by(seen, len);
+    }
+    Needed { slots: 0, bytes: 0 }
+}
+
+// What the right needs of the left, over all its slots.
+fn lacks(
+    marks: &[u8],
+    offsets: &[u16],
+    lengths: &[u8],
+    arena: &[u8],
+    right_marks: &[u8],
+    right_offsets: &[u16],
+    right_lengths: &[u8],
+    right_arena: &[u8],
+) -> Needed
+    requires { ⌜ (fitting (spansOf (now marks) (now offsets) (now lengths) (now arena)) ≡ true) × (length (now «right_marks») ≤ 4096) ⌝ }
+    ensures { λ r. ⌜ r ≡ lacksOf (spansOf (now (marks .entry)) (now (offsets .entry)) (now (lengths .entry)) (now (arena .entry))) (spansOf (now («right_marks» .entry)) (now («right_offsets» .entry)) (now («right_lengths» .entry)) (now («right_arena» .entry))) (length (now («right_marks» .entry))) ⌝ }
+{
+    let mut slots = 0;
+    let mut bytes = 0;
+    let mut i = 0;
+    while i < right_marks.len() {
+        let more = lack(
+            marks,
+            offsets,
+            lengths,
+            arena,
+            right_marks,
+            right_offsets,
+            right_lengths,
+            right_arena,
+            i,
+        );
+        slots += more.slots;
+        bytes += more.bytes;
+        i += 1;
+    }
+    Needed { slots, bytes }
+}
+
+// The union's tests of two tables of right sizes: damage in either, then slots, then bytes.
+fn room(
+    marks: &[u8],
+    offsets: &[u16],
+    lengths: &[u8],
+    arena: &[u8],
+    right_marks: &[u8],
+    right_offsets: &[u16],
+    right_lengths: &[u8],
+    right_arena: &[u8],
+) -> Planned
+    requires { ⌜ (fitting (spansOf (now marks) (now offsets) (now lengths) (now arena)) ≡ true) × (length (now «right_marks») ≤ 4096) ⌝ }
+    ensures { λ r. ⌜ planned r ≡ roomOf (spansOf (now (marks .entry)) (now (offsets .entry)) (now (lengths .entry)) (now (arena .entry))) (spansOf (now («right_marks» .entry)) (now («right_offsets» .entry)) (now («right_lengths» .entry)) (now («right_arena» .entry))) ⌝ }
+{
+    let found = survey(marks, offsets, lengths, arena);
+    let Surveyed::Used(used) = found else {
+        return Planned::Refused(Refusal::Damaged);
+    };
+    let other = survey(right_marks, right_offsets, right_lengths, right_arena);
+    let Surveyed::Used(_) = other else {
+        return Planned::Refused(Refusal::Damaged);
+    };
+    let seen = scan(marks, offsets, lengths, arena);
+    let Scanned::Live(live) = seen else {
+        return Planned::Refused(Refusal::Damaged);
+    };
+    let needed = lacks(
+        marks,
+        offsets,
+        lengths,
+        arena,
+        right_marks,
+        right_offsets,
+        right_lengths,
+        right_arena,
+    );
+    if needed.slots <= marks.len() - live {
+        if needed.bytes <= arena.len() - used {
+            return Planned::Go(used);
+        }
+        return Planned::Refused(Refusal::NoBytes);
+    }
+    Planned::Refused(Refusal::NoSlot)
+}
+
+// Whether a map's lent arrays are of right sizes.
+fn map_fits(marks: &[u8], offsets: &[u16], lengths: &[u8], values: &[u64], arena: &[u8]) -> bool
+    ensures { λ r. ⌜ r ≡ fittingMap (mapMemory (now (marks .entry)) (now (offsets .entry)) (now (lengths .entry)) (now (values .entry)) (now (arena .entry))) ⌝ }
+{
+    if fits(marks, offsets, lengths, arena) {
+        return marks.len() == values.len();
+    }
+    false
+}
+
+// The union's tests.
+fn plan(
+    marks: &[u8],
+    offsets: &[u16],
+    lengths: &[u8],
+    values: &[u64],
+    arena: &[u8],
+    right_marks: &[u8],
+    right_offsets: &[u16],
+    right_lengths: &[u8],
+    right_values: &[u64],
+    right_arena: &[u8],
+) -> Planned
+    ensures { λ r. ⌜ planned r ≡ planOf (mapMemory (now (marks .entry)) (now (offsets .entry)) (now (lengths .entry)) (now (values .entry)) (now (arena .entry))) (mapMemory (now («right_marks» .entry)) (now («right_offsets» .entry)) (now («right_lengths» .entry)) (now («right_values» .entry)) (now («right_arena» .entry))) ⌝ }
+{
+    if map_fits(marks, offsets, lengths, values, arena) {
+        if map_fits(
+            right_marks,
+            right_offsets,
+            right_lengths,
+            right_values,
+            right_arena,
+        ) {
+            return room(
+                marks,
+                offsets,
+                lengths,
+                arena,
+                right_marks,
+                right_offsets,
+                right_lengths,
+                right_arena,
+            );
+        }
+        return Planned::Refused(Refusal::Sizes);
+    }
+    Planned::Refused(Refusal::Sizes)
+}
+
+// The insert rule with no test: the key's value changes in its slot, or the first free slot of its path takes the key. The bytes used then.
+fn store(
+    marks: &mut [u8],
+    offsets: &mut [u16],
+    lengths: &mut [u8],
+    values: &mut [u64],
+    arena: &mut [u8],
+    key: &[u8],
+    value: u64,
+    used: usize,
+) -> usize
+    requires { ⌜ Storable (mapMemory (now marks) (now offsets) (now lengths) (now values) (now arena)) used (now key) value ⌝ }
+    ensures { λ r. ⌜ (mapMemory (now (marks .exit)) (now (offsets .exit)) (now (lengths .exit)) (now (values .exit)) (now (arena .exit)) ≡ rule maps (mapMemory (now (marks .entry)) (now (offsets .entry)) (now (lengths .entry)) (now (values .entry)) (now (arena .entry))) (now (key .entry)) value) × (r ≡ usedOf (spansOf (now (marks .exit)) (now (offsets .exit)) (now (lengths .exit)) (now (arena .exit)))) ⌝ }
+{
+    let seen = probe(marks, offsets, lengths, arena, key);
+    match seen {
+        Probed::Hit(slot, _) => {
+            values[slot] = value;
+            return used;
+        }
+        Probed::Free(slot, _) => {
+            fill(marks, offsets, lengths, arena, slot, used, key);
+            values[slot] = value;
+            return used + key.len();
+        }
+        Probed::Full(_) => return used,
+        Probed::Refused(_) => return used,
+    }
+}
+
+// The insert rule for slot i of the right, where it is live. The bytes used then.
+fn store_slot(
+    marks: &mut [u8],
+    offsets: &mut [u16],
+    lengths: &mut [u8],
+    values: &mut [u64],
+    arena: &mut [u8],
+    right_marks: &[u8],
+    right_offsets: &[u16],
+    right_lengths: &[u8],
+    right_values: &[u64],
+    right_arena: &[u8],
+    i: usize,
+    used: usize,
+) -> usize
+    requires { ⌜ Ready (mapMemory (now marks) (now offsets) (now lengths) (now values) (now arena)) used (pairAt (mapMemory (now «right_marks») (now «right_offsets») (now «right_lengths») (now «right_values») (now «right_arena»)) i) × (i < length (now «right_values»)) ⌝ }
+    ensures { λ r. ⌜ (mapMemory (now (marks .exit)) (now (offsets .exit)) (now (lengths .exit)) (now (values .exit)) (now (arena .exit)) ≡ slotStored (mapMemory (now (marks .entry)) (now (offsets .entry)) (now (lengths .entry)) (now (values .entry)) (now (arena .entry))) (mapMemory (now («right_marks» .entry)) (now («right_offsets» .entry)) (now («right_lengths» .entry)) (now («right_values» .entry)) (now («right_arena» .entry))) i) × (r ≡ usedOf (spansOf (now (marks .exit)) (now (offsets .exit)) (now (lengths .exit)) (now (arena .exit)))) ⌝ }
+{
+    if mark_at(right_marks, right_offsets, right_lengths, right_arena, i) == 1 {
+        let start = offset_at(right_offsets, i) as usize;
+        let len = byte_at(right_lengths, i) as usize;
+        let end = start + len;
+        return store(
+            marks,
+            offsets,
+            lengths,
+            values,
+            arena,
+            &right_arena[start..end],
+            right_values[i],
+            used,
+        );
+    }
+    used
+}
+
+// The right's pairs go into the left by the insert rule, in the right's slot order.
+fn store_all(
+    marks: &mut [u8],
+    offsets: &mut [u16],
+    lengths: &mut [u8],
+    values: &mut [u64],
+    arena: &mut [u8],
+    right_marks: &[u8],
+    right_offsets: &[u16],
+    right_lengths: &[u8],
+    right_values: &[u64],
+    right_arena: &[u8],
+    used: usize,
+)
+    requires { ⌜ Ready (mapMemory (now marks) (now offsets) (now lengths) (now values) (now arena)) used (pairsOf (mapMemory (now «right_marks») (now «right_offsets») (now «right_lengths») (now «right_values») (now «right_arena»)) (length (now «right_marks»))) × (length (now «right_values») ≡ length (now «right_marks»)) × (length (now «right_marks») ≤ 4096) ⌝ }
+    ensures { λ r. ⌜ mapMemory (now (marks .exit)) (now (offsets .exit)) (now (lengths .exit)) (now (values .exit)) (now (arena .exit)) ≡ allStored (mapMemory (now (marks .entry)) (now (offsets .entry)) (now (lengths .entry)) (now (values .entry)) (now (arena .entry))) (mapMemory (now («right_marks» .entry)) (now («right_offsets» .entry)) (now («right_lengths» .entry)) (now («right_values» .entry)) (now («right_arena» .entry))) (length (now («right_marks» .entry))) ⌝ }
+{
+    let mut end = used;
+    let mut i = 0;
+    while i < right_marks.len() {
+        end = store_slot(
+            marks,
+            offsets,
+            lengths,
+            values,
+            arena,
+            right_marks,
+            right_offsets,
+            right_lengths,
+            right_values,
+            right_arena,
+            i,
+            end,
+        );
+        i += 1;
+    }
+}
+
+// Puts the right's pairs into the left, where its slots and bytes suffice for all; the right stays as it was.
+pub fn union_prefer_right(
+    marks: &mut [u8],
+    offsets: &mut [u16],
+    lengths: &mut [u8],
+    values: &mut [u64],
+    arena: &mut [u8],
+    right_marks: &[u8],
+    right_offsets: &[u16],
+    right_lengths: &[u8],
+    right_values: &[u64],
+    right_arena: &[u8],
+) -> Outcome
+    ensures { λ r. ⌜ told (outcomeNumbers r) (mapMemory (now (marks .exit)) (now (offsets .exit)) (now (lengths .exit)) (now (values .exit)) (now (arena .exit))) ≡ unionOf maps (mapMemory (now (marks .entry)) (now (offsets .entry)) (now (lengths .entry)) (now (values .entry)) (now (arena .entry))) (mapMemory (now («right_marks» .entry)) (now («right_offsets» .entry)) (now («right_lengths» .entry)) (now («right_values» .entry)) (now («right_arena» .entry))) ⌝ }
+{
+    let planned = plan(
+        marks,
+        offsets,
+        lengths,
+        values,
+        arena,
+        right_marks,
+        right_offsets,
+        right_lengths,
+        right_values,
+        right_arena,
+    );
+    match planned {
+        Planned::Go(used) => {
+            store_all(
+                marks,
+                offsets,
+                lengths,
+                values,
+                arena,
+                right_marks,
+                right_offsets,
+                right_lengths,
+                right_values,
+                right_arena,
+                used,
+            );
+            Outcome::Done
+        }
+        Planned::Refused(r) => Outcome::Refused(r),
+    }
+}
