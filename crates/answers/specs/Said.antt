@@ -16,6 +16,11 @@ abbrev pub saidCase : ℕ → ℕ → ℕ → ℕ → ℕ → Numbers
 saidCase c k v s e =
     record { refusal = 0; case = c; key = k; value = v; slot = s; examined = e; walk = 0; offset = 0; length = 0 }
 
+-- A case that names a part of the arena, by its offset and length.
+abbrev pub saidSpan : ℕ → ℕ → ℕ → ℕ → ℕ → Numbers
+saidSpan c s e o l =
+    record { refusal = 0; case = c; key = 0; value = 0; slot = s; examined = e; walk = 0; offset = o; length = l }
+
 -- make, clear, copy and union: done.
 unfoldable pub doneSaid : {A : Type 0} → Or A → Numbers
 doneSaid (no n) = saidNo n
@@ -135,22 +140,19 @@ standingSaid s (ok v) = saidCase 19 0 v s 0
 -- A byte map's insert, with the offset that a fresh key gets: fresh or replaced.
 unfoldable pub storedSaid : ℕ → Or (Spot ℕ) → Numbers
 storedSaid o (no n) = saidNo n
-storedSaid o (ok (vacant s e)) =
-    record { refusal = 0; case = 9; key = 0; value = 0; slot = s; examined = e; walk = 0; offset = o; length = 0 }
+storedSaid o (ok (vacant s e)) = saidSpan 9 s e o 0
 storedSaid o (ok (occupied s v e)) = saidCase 10 0 v s e
 
 -- A byte set's insert, with the offset that a fresh key gets: fresh or already there.
 unfoldable pub joinedSaid : {W : Type 0} → ℕ → Or (Spot W) → Numbers
 joinedSaid o (no n) = saidNo n
-joinedSaid o (ok (vacant s e)) =
-    record { refusal = 0; case = 9; key = 0; value = 0; slot = s; examined = e; walk = 0; offset = o; length = 0 }
+joinedSaid o (ok (vacant s e)) = saidSpan 9 s e o 0
 joinedSaid o (ok (occupied s v e)) = saidCase 10 0 0 s e
 
 -- A byte set's get, by the offset and the length of each slot: the stored key's span, or absent.
 unfoldable pub spannedSaid : {W : Type 0} → (ℕ → ℕ) → (ℕ → ℕ) → Or (Seen W) → Numbers
 spannedSaid offset length (no n) = saidNo n
-spannedSaid offset length (ok (found v s e)) =
-    record { refusal = 0; case = 6; key = 0; value = 0; slot = s; examined = e; walk = 0; offset = offset s; length = length s }
+spannedSaid offset length (ok (found v s e)) = saidSpan 6 s e (offset s) (length s)
 spannedSaid offset length (ok (absent e)) = saidCase 8 0 0 0 e
 
 -- A byte map hands out the key's offset and length, and the value; the pair's slot is the one before the walk.

@@ -1,8 +1,8 @@
 // What the calls answer: refusals with the paper's numbers, the record of the paper's numbers, and the answer of the home slot.
 ghost use mathlib.Core.Path.{_≡_};
 ghost use Rattle.answers.specs.Refusals.{numberOf};
-ghost use Rattle.answers.specs.Said.{saidCase};
-ghost use Rattle.answers.specs.Numbers.{refusalNumbers, outcomeNumbers, countedNumbers, emptinessNumbers, reservedNumbers, gotNumbers, memberNumbers, containedNumbers, insertedNumbers, addedNumbers, removedNumbers, droppedNumbers};
+ghost use Rattle.answers.specs.Said.{saidCase, saidSpan};
+ghost use Rattle.answers.specs.Numbers.{refusalNumbers, outcomeNumbers, countedNumbers, emptinessNumbers, reservedNumbers, gotNumbers, memberNumbers, containedNumbers, insertedNumbers, addedNumbers, removedNumbers, droppedNumbers, storedNumbers, joinedNumbers, spannedNumbers};
 
 // What a call may say no with, in the order of the paper's table.
 pub enum Refusal {
@@ -181,6 +181,29 @@ pub fn case_numbers(case: u64, key: u64, value: u64, slot: usize, examined: usiz
     }
 }
 
+// The numbers of a case that names a part of the arena, by its offset and length.
+pub fn span_numbers(
+    case: u64,
+    slot: usize,
+    examined: usize,
+    offset: usize,
+    length: usize,
+) -> Numbers
+    ensures { λ n. ⌜ n ≡ saidSpan case slot examined offset length ⌝ }
+{
+    Numbers {
+        refusal: 0,
+        case,
+        key: 0,
+        value: 0,
+        slot: slot as u64,
+        examined: examined as u64,
+        walk: 0,
+        offset: offset as u64,
+        length: length as u64,
+    }
+}
+
 // The numbers of make, clear, copy and union.
 pub fn outcome_numbers(a: Outcome) -> Numbers
     ensures { λ n. ⌜ n ≡ outcomeNumbers a ⌝ }
@@ -296,5 +319,44 @@ pub fn dropped_numbers(a: Dropped) -> Numbers
         Dropped::Removed(slot, examined) => case_numbers(11, 0, 0, slot, examined),
         Dropped::Absent(examined) => case_numbers(8, 0, 0, 0, examined),
         Dropped::Refused(r) => refusal_numbers(r),
+    }
+}
+
+// The numbers of a byte map's insert.
+pub fn stored_numbers(a: Stored) -> Numbers
+    ensures { λ n. ⌜ n ≡ storedNumbers a ⌝ }
+{
+    match a {
+        Stored::Fresh(slot, offset, examined) => span_numbers(9, slot, examined, offset, 0),
+        Stored::Replaced(old, slot, examined) => case_numbers(10, 0, old, slot, examined),
+        Stored::Refused(r) => refusal_numbers(r),
+    }
+}
+
+// The numbers of a byte set's insert.
+pub fn joined_numbers(a: Joined) -> Numbers
+    ensures { λ n. ⌜ n ≡ joinedNumbers a ⌝ }
+{
+    match a {
+        Joined::Fresh(slot, offset, examined) => span_numbers(9, slot, examined, offset, 0),
+        Joined::Already(slot, examined) => case_numbers(10, 0, 0, slot, examined),
+        Joined::Refused(r) => refusal_numbers(r),
+    }
+}
+
+// The numbers of a byte set's get.
+pub fn spanned_numbers(a: Spanned) -> Numbers
+    ensures { λ n. ⌜ n ≡ spannedNumbers a ⌝ }
+{
+    match a {
+        Spanned::Found(offset, length, slot, examined) => span_numbers(
+            6,
+            slot,
+            examined,
+            offset,
+            length,
+        ),
+        Spanned::Absent(examined) => case_numbers(8, 0, 0, 0, examined),
+        Spanned::Refused(r) => refusal_numbers(r),
     }
 }
