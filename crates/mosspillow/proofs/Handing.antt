@@ -11,6 +11,6 @@ pub handed : {M : Type 0} {r n : Numbers} {m : M} {t : Told M} → r ≡ n → t
 handed p q = rw p q
 
 -- The same where the callee takes a handle that C spells in another way.
-pub handed-by : {M : Type 0} (call : M → Handle → ℕ → ℕ → Told M) {r n : Numbers} {m t : M} {h g : Handle} {k v : ℕ}
+pub handed-by : {M K : Type 0} (call : M → Handle → K → ℕ → Told M) {r n : Numbers} {m t : M} {h g : Handle} {k : K} {v : ℕ}
     → r ≡ n → told n m ≡ call t h k v → h ≡ g → told r m ≡ call t g k v
 handed-by call p q e = rw (p, ← e) q

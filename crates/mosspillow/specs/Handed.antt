@@ -6,16 +6,14 @@ use Prim.Native.Nat.{ℕ}
 use lib.Dec.{eqb}
 use Rattle.model.specs.Calls.{Handle, on-occupied, on-vacant}
 use Rattle.answers.specs.declared.Numbers.{Numbers}
-use Rattle.int_entry.specs.declared.Entered.{Entered}
-use Rattle.int_entry.specs.Calls.{handleOf}
 
 -- The handle of a case number and a slot in a table of S slots: 12 is occupied, 13 vacant, any other number a vacant one of slot S.
 unfoldable pub handleAs : ℕ → ℕ → ℕ → Handle
 handleAs S case slot = cond (eqb case 12) (on-occupied slot) (cond (eqb case 13) (on-vacant slot) (on-vacant S))
 
--- An entry answer is that handle, in a table of any size.
-abbrev pub Hands : Entered → ℕ → ℕ → Type 0
-Hands a case slot = (S : ℕ) → handleOf S a ≡ handleAs S case slot
+-- An entry answer is that handle, in a table of any size; `handleOf` says which handle an answer is.
+abbrev pub Hands : {E : Type 0} → (ℕ → E → Handle) → E → ℕ → ℕ → Type 0
+Hands handleOf a case slot = (S : ℕ) → handleOf S a ≡ handleAs S case slot
 
 -- The numbers of a step, with its walk.
 abbrev pub walked : ℕ → ℕ → ℕ → ℕ → ℕ → ℕ → Numbers

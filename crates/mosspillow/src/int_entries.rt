@@ -4,7 +4,7 @@ ghost use lib.ListN.{length};
 ghost use Rattle.kinds.specs.Told.{told};
 ghost use Rattle.ints.specs.Memory.{memory};
 ghost use Rattle.int_entry.specs.Numbers.{enteredNumbers, heldNumbers, swappedNumbers, takenNumbers, takenEntryNumbers, standingNumbers};
-ghost use Rattle.int_entry.specs.Calls.{entryOf, getOf, setOf, removeOf, removeEntryOf, insertOf, orInsertOf, insertEntryOf};
+ghost use Rattle.int_entry.specs.Calls.{handleOf, entryOf, getOf, setOf, removeOf, removeEntryOf, insertOf, orInsertOf, insertEntryOf};
 ghost use Rattle.mosspillow.specs.Handed.{handleAs, Hands};
 use answers::Numbers;
 use answers::Refusal;
@@ -88,7 +88,7 @@ fn standing_numbers(a: Standing) -> Numbers
 
 // The entry answer of a case number and a slot: 12 is occupied, 13 vacant, any other number neither.
 fn entered(case: u64, slot: u64) -> Entered
-    ensures { λ r. ⌜ Hands r case slot ⌝ }
+    ensures { λ r. ⌜ Hands handleOf r case slot ⌝ }
 {
     if case == 12 {
         return Entered::Occupied(

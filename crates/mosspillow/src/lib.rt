@@ -1,6 +1,7 @@
 // The C library: thin wrappers of the published calls. include/mosspillow.h declares them.
 ghost use mathlib.Core.Path.{_≡_};
 ghost use Rattle.answers.specs.Numbers.{homedNumbers};
+ghost use Rattle.answers.specs.Said.{handed};
 ghost use Rattle.digest.specs.Digest.{digestOf};
 ghost use Rattle.digest.specs.Home.{homedOf};
 ghost use Rattle.mosspillow.specs.Returned.{returned};
@@ -11,6 +12,7 @@ use answers::number;
 use digest::digest;
 use digest::home;
 
+pub mod byte_sets;
 pub mod int_entries;
 pub mod int_maps;
 pub mod int_sets;
@@ -59,5 +61,28 @@ fn walk_numbers(
         walk: walk as u64,
         offset: 0,
         length: 0,
+    }
+}
+
+// The numbers of a step that hands out a key's offset and length, and in a map its value, and left its walk at this slot.
+fn span_walk_numbers(
+    value: u64,
+    offset: usize,
+    length: usize,
+    examined: usize,
+    at: usize,
+) -> Numbers
+    ensures { λ n. ⌜ n ≡ handed 0 value offset length at examined ⌝ }
+{
+    Numbers {
+        refusal: 0,
+        case: 14,
+        key: 0,
+        value,
+        slot: 0,
+        examined: examined as u64,
+        walk: at as u64,
+        offset: offset as u64,
+        length: length as u64,
     }
 }

@@ -1,0 +1,17 @@
+-- `moss_byte_set_len` meets its contract: its answer is that of the callee.
+use mathlib.Core.Path.{_∙_}
+use borrow.Author.Needs.{needs}
+use Rattle.mosspillow.proofs.byte_sets.moss_byte_set_len.Statement.{statement}
+use Rattle.mosspillow.proofs.byte_sets.moss_byte_set_len.Tie as tie
+
+len-requires : tie.Need-len-requires
+len-requires c κs = search needs
+
+counted-numbers-requires : tie.Need-counted-numbers-requires
+counted-numbers-requires c κs = search needs
+
+returns : tie.Need-returns
+returns c = c .counted-numbers .ensures ∙ c .before .len .ensures
+
+pub moss-byte-set-len-spec : {M : Type 1} → statement M
+moss-byte-set-len-spec = tie.close (tie.spec len-requires counted-numbers-requires returns)

@@ -1,0 +1,221 @@
+// The byte set for C: each call as byte_set has it, its answer as numbers.
+ghost use mathlib.Core.Path.{_≡_};
+ghost use Rattle.kinds.specs.Told.{told};
+ghost use Rattle.kinds.specs.Calls.{makeOf, capacityOf, lenOf, isEmptyOf, reserveOf, containsOf, copyOf, droppedOf};
+ghost use Rattle.spans.specs.Kinds.{sets, setMemory, joinOf, spanOf, setStepOf};
+ghost use Rattle.byte_set.specs.Numbers.{stepNumbers};
+use crate::span_walk_numbers;
+use crate::walk_numbers;
+use answers::Numbers;
+use answers::contained_numbers;
+use answers::counted_numbers;
+use answers::dropped_numbers;
+use answers::emptiness_numbers;
+use answers::joined_numbers;
+use answers::number;
+use answers::outcome_numbers;
+use answers::reserved_numbers;
+use answers::spanned_numbers;
+use byte_set::Paced;
+use byte_set::Step;
+use byte_set::Walk;
+
+// Makes an empty set of the lent arrays.
+#[no_mangle]
+pub extern "C" fn moss_byte_set_make(
+    marks: &mut [u8],
+    offsets: &mut [u16],
+    lengths: &mut [u8],
+    arena: &mut [u8],
+) -> Numbers
+    ensures { λ r. ⌜ told r (setMemory (now (marks .exit)) (now (offsets .exit)) (now (lengths .exit)) (now (arena .exit))) ≡ makeOf sets (setMemory (now (marks .entry)) (now (offsets .entry)) (now (lengths .entry)) (now (arena .entry))) ⌝ }
+{
+    outcome_numbers(byte_set::make(marks, offsets, lengths, arena))
+}
+
+// Empties a set.
+#[no_mangle]
+pub extern "C" fn moss_byte_set_clear(
+    marks: &mut [u8],
+    offsets: &mut [u16],
+    lengths: &mut [u8],
+    arena: &mut [u8],
+) -> Numbers
+    ensures { λ r. ⌜ told r (setMemory (now (marks .exit)) (now (offsets .exit)) (now (lengths .exit)) (now (arena .exit))) ≡ makeOf sets (setMemory (now (marks .entry)) (now (offsets .entry)) (now (lengths .entry)) (now (arena .entry))) ⌝ }
+{
+    outcome_numbers(byte_set::clear(marks, offsets, lengths, arena))
+}
+
+// The number of slots.
+#[no_mangle]
+pub extern "C" fn moss_byte_set_capacity(
+    marks: &[u8],
+    offsets: &[u16],
+    lengths: &[u8],
+    arena: &[u8],
+) -> Numbers
+    ensures { λ r. ⌜ r ≡ capacityOf sets (setMemory (now (marks .entry)) (now (offsets .entry)) (now (lengths .entry)) (now (arena .entry))) ⌝ }
+{
+    counted_numbers(byte_set::capacity(marks, offsets, lengths, arena))
+}
+
+// The number of keys.
+#[no_mangle]
+pub extern "C" fn moss_byte_set_len(
+    marks: &[u8],
+    offsets: &[u16],
+    lengths: &[u8],
+    arena: &[u8],
+) -> Numbers
+    ensures { λ r. ⌜ r ≡ lenOf sets (setMemory (now (marks .entry)) (now (offsets .entry)) (now (lengths .entry)) (now (arena .entry))) ⌝ }
+{
+    counted_numbers(byte_set::len(marks, offsets, lengths, arena))
+}
+
+// Whether there is no key.
+#[no_mangle]
+pub extern "C" fn moss_byte_set_is_empty(
+    marks: &[u8],
+    offsets: &[u16],
+    lengths: &[u8],
+    arena: &[u8],
+) -> Numbers
+    ensures { λ r. ⌜ r ≡ isEmptyOf sets (setMemory (now (marks .entry)) (now (offsets .entry)) (now (lengths .entry)) (now (arena .entry))) ⌝ }
+{
+    emptiness_numbers(byte_set::is_empty(marks, offsets, lengths, arena))
+}
+
+// Whether so many slots are not live.
+#[no_mangle]
+pub extern "C" fn moss_byte_set_reserve(
+    marks: &[u8],
+    offsets: &[u16],
+    lengths: &[u8],
+    arena: &[u8],
+    asked: u64,
+) -> Numbers
+    ensures { λ r. ⌜ r ≡ reserveOf sets (setMemory (now (marks .entry)) (now (offsets .entry)) (now (lengths .entry)) (now (arena .entry))) asked ⌝ }
+{
+    reserved_numbers(byte_set::reserve(marks, offsets, lengths, arena, asked))
+}
+
+// Where the key is stored, where it is there.
+#[no_mangle]
+pub extern "C" fn moss_byte_set_get(
+    marks: &[u8],
+    offsets: &[u16],
+    lengths: &[u8],
+    arena: &[u8],
+    key: &[u8],
+) -> Numbers
+    ensures { λ r. ⌜ r ≡ spanOf (setMemory (now (marks .entry)) (now (offsets .entry)) (now (lengths .entry)) (now (arena .entry))) (now (key .entry)) ⌝ }
+{
+    spanned_numbers(byte_set::get(marks, offsets, lengths, arena, key))
+}
+
+// Whether a key is there.
+#[no_mangle]
+pub extern "C" fn moss_byte_set_contains(
+    marks: &[u8],
+    offsets: &[u16],
+    lengths: &[u8],
+    arena: &[u8],
+    key: &[u8],
+) -> Numbers
+    ensures { λ r. ⌜ r ≡ containsOf sets (setMemory (now (marks .entry)) (now (offsets .entry)) (now (lengths .entry)) (now (arena .entry))) (now (key .entry)) ⌝ }
+{
+    contained_numbers(byte_set::contains(marks, offsets, lengths, arena, key))
+}
+
+// Puts a key in.
+#[no_mangle]
+pub extern "C" fn moss_byte_set_insert(
+    marks: &mut [u8],
+    offsets: &mut [u16],
+    lengths: &mut [u8],
+    arena: &mut [u8],
+    key: &[u8],
+) -> Numbers
+    ensures { λ r. ⌜ told r (setMemory (now (marks .exit)) (now (offsets .exit)) (now (lengths .exit)) (now (arena .exit))) ≡ joinOf (setMemory (now (marks .entry)) (now (offsets .entry)) (now (lengths .entry)) (now (arena .entry))) (now (key .entry)) ⌝ }
+{
+    joined_numbers(byte_set::insert(marks, offsets, lengths, arena, key))
+}
+
+// Takes a key out.
+#[no_mangle]
+pub extern "C" fn moss_byte_set_remove(
+    marks: &mut [u8],
+    offsets: &mut [u16],
+    lengths: &mut [u8],
+    arena: &mut [u8],
+    key: &[u8],
+) -> Numbers
+    ensures { λ r. ⌜ told r (setMemory (now (marks .exit)) (now (offsets .exit)) (now (lengths .exit)) (now (arena .exit))) ≡ droppedOf sets (setMemory (now (marks .entry)) (now (offsets .entry)) (now (lengths .entry)) (now (arena .entry))) (now (key .entry)) ⌝ }
+{
+    dropped_numbers(byte_set::remove(marks, offsets, lengths, arena, key))
+}
+
+// Makes a set equal to another of equal sizes.
+#[no_mangle]
+pub extern "C" fn moss_byte_set_copy(
+    to_marks: &mut [u8],
+    to_offsets: &mut [u16],
+    to_lengths: &mut [u8],
+    to_arena: &mut [u8],
+    marks: &[u8],
+    offsets: &[u16],
+    lengths: &[u8],
+    arena: &[u8],
+) -> Numbers
+    ensures { λ r. ⌜ told r (setMemory (now («to_marks» .exit)) (now («to_offsets» .exit)) (now («to_lengths» .exit)) (now («to_arena» .exit))) ≡ copyOf sets (setMemory (now («to_marks» .entry)) (now («to_offsets» .entry)) (now («to_lengths» .entry)) (now («to_arena» .entry))) (setMemory (now (marks .entry)) (now (offsets .entry)) (now (lengths .entry)) (now (arena .entry))) ⌝ }
+{
+    outcome_numbers(byte_set::copy(
+        to_marks,
+        to_offsets,
+        to_lengths,
+        to_arena,
+        marks,
+        offsets,
+        lengths,
+        arena,
+    ))
+}
+
+// The numbers of a step of a walk.
+fn step_numbers(s: Step) -> Numbers
+    ensures { λ n. ⌜ n ≡ stepNumbers s ⌝ }
+{
+    let at = s.walk.at;
+    let examined = s.examined;
+    let out = s.out;
+    match out {
+        Paced::Member(offset, length) => span_walk_numbers(0, offset, length, examined, at),
+        Paced::Nothing => walk_numbers(0, 15, 0, 0, examined, at),
+        Paced::Done => walk_numbers(0, 16, 0, 0, examined, at),
+        Paced::Refused(r) => walk_numbers(number(r), 0, 0, 0, examined, at),
+    }
+}
+
+// Where a walk starts.
+#[no_mangle]
+pub extern "C" fn moss_byte_set_walk_start() -> u64
+    ensures { λ r. ⌜ r ≡ 0 ⌝ }
+{
+    Walk::start().at as u64
+}
+
+// One step of a walk with a budget of slots.
+#[no_mangle]
+pub extern "C" fn moss_byte_set_step(
+    marks: &[u8],
+    offsets: &[u16],
+    lengths: &[u8],
+    arena: &[u8],
+    walk: u64,
+    budget: u64,
+) -> Numbers
+    ensures { λ r. ⌜ r ≡ setStepOf (setMemory (now (marks .entry)) (now (offsets .entry)) (now (lengths .entry)) (now (arena .entry))) walk budget ⌝ }
+{
+    let from = Walk { at: walk as usize };
+    step_numbers(from.step(marks, offsets, lengths, arena, budget))
+}
