@@ -12,6 +12,8 @@ use answers::number;
 use digest::digest;
 use digest::home;
 
+pub mod byte_entries;
+pub mod byte_maps;
 pub mod byte_sets;
 pub mod int_entries;
 pub mod int_maps;

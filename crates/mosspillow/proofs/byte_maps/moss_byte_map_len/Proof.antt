@@ -1,0 +1,17 @@
+-- `moss_byte_map_len` meets its contract: its answer is that of the callee.
+use mathlib.Core.Path.{_∙_}
+use borrow.Author.Needs.{needs}
+use Rattle.mosspillow.proofs.byte_maps.moss_byte_map_len.Statement.{statement}
+use Rattle.mosspillow.proofs.byte_maps.moss_byte_map_len.Tie as tie
+
+len-requires : tie.Need-len-requires
+len-requires c κs = search needs
+
+counted-numbers-requires : tie.Need-counted-numbers-requires
+counted-numbers-requires c κs = search needs
+
+returns : tie.Need-returns
+returns c = c .counted-numbers .ensures ∙ c .before .len .ensures
+
+pub moss-byte-map-len-spec : {M : Type 1} → statement M
+moss-byte-map-len-spec = tie.close (tie.spec len-requires counted-numbers-requires returns)

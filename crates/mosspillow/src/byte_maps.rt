@@ -1,0 +1,273 @@
+// The byte map for C: each call as byte_map, byte_copy, byte_union and byte_walk have it, its answer as numbers.
+ghost use mathlib.Core.Path.{_≡_};
+ghost use Rattle.kinds.specs.Told.{told};
+ghost use Rattle.kinds.specs.Calls.{makeOf, capacityOf, lenOf, isEmptyOf, reserveOf, getOf, containsOf, removeOf, copyOf, unionOf};
+ghost use Rattle.spans.specs.Kinds.{maps, mapMemory, insertOf, stepOf};
+ghost use Rattle.byte_walk.specs.Numbers.{stepNumbers};
+use crate::span_walk_numbers;
+use crate::walk_numbers;
+use answers::Numbers;
+use answers::contained_numbers;
+use answers::counted_numbers;
+use answers::emptiness_numbers;
+use answers::got_numbers;
+use answers::number;
+use answers::outcome_numbers;
+use answers::removed_numbers;
+use answers::reserved_numbers;
+use answers::stored_numbers;
+use byte_walk::Paced;
+use byte_walk::Step;
+use byte_walk::Walk;
+
+// Makes an empty map of the lent arrays.
+#[no_mangle]
+pub extern "C" fn moss_byte_map_make(
+    marks: &mut [u8],
+    offsets: &mut [u16],
+    lengths: &mut [u8],
+    values: &mut [u64],
+    arena: &mut [u8],
+) -> Numbers
+    ensures { λ r. ⌜ told r (mapMemory (now (marks .exit)) (now (offsets .exit)) (now (lengths .exit)) (now (values .exit)) (now (arena .exit))) ≡ makeOf maps (mapMemory (now (marks .entry)) (now (offsets .entry)) (now (lengths .entry)) (now (values .entry)) (now (arena .entry))) ⌝ }
+{
+    outcome_numbers(byte_map::make(marks, offsets, lengths, values, arena))
+}
+
+// Empties a map.
+#[no_mangle]
+pub extern "C" fn moss_byte_map_clear(
+    marks: &mut [u8],
+    offsets: &mut [u16],
+    lengths: &mut [u8],
+    values: &mut [u64],
+    arena: &mut [u8],
+) -> Numbers
+    ensures { λ r. ⌜ told r (mapMemory (now (marks .exit)) (now (offsets .exit)) (now (lengths .exit)) (now (values .exit)) (now (arena .exit))) ≡ makeOf maps (mapMemory (now (marks .entry)) (now (offsets .entry)) (now (lengths .entry)) (now (values .entry)) (now (arena .entry))) ⌝ }
+{
+    outcome_numbers(byte_map::clear(marks, offsets, lengths, values, arena))
+}
+
+// The number of slots.
+#[no_mangle]
+pub extern "C" fn moss_byte_map_capacity(
+    marks: &[u8],
+    offsets: &[u16],
+    lengths: &[u8],
+    values: &[u64],
+    arena: &[u8],
+) -> Numbers
+    ensures { λ r. ⌜ r ≡ capacityOf maps (mapMemory (now (marks .entry)) (now (offsets .entry)) (now (lengths .entry)) (now (values .entry)) (now (arena .entry))) ⌝ }
+{
+    counted_numbers(byte_map::capacity(marks, offsets, lengths, values, arena))
+}
+
+// The number of keys.
+#[no_mangle]
+pub extern "C" fn moss_byte_map_len(
+    marks: &[u8],
+    offsets: &[u16],
+    lengths: &[u8],
+    values: &[u64],
+    arena: &[u8],
+) -> Numbers
+    ensures { λ r. ⌜ r ≡ lenOf maps (mapMemory (now (marks .entry)) (now (offsets .entry)) (now (lengths .entry)) (now (values .entry)) (now (arena .entry))) ⌝ }
+{
+    counted_numbers(byte_map::len(marks, offsets, lengths, values, arena))
+}
+
+// Whether there is no key.
+#[no_mangle]
+pub extern "C" fn moss_byte_map_is_empty(
+    marks: &[u8],
+    offsets: &[u16],
+    lengths: &[u8],
+    values: &[u64],
+    arena: &[u8],
+) -> Numbers
+    ensures { λ r. ⌜ r ≡ isEmptyOf maps (mapMemory (now (marks .entry)) (now (offsets .entry)) (now (lengths .entry)) (now (values .entry)) (now (arena .entry))) ⌝ }
+{
+    emptiness_numbers(byte_map::is_empty(marks, offsets, lengths, values, arena))
+}
+
+// Whether so many slots are not live.
+#[no_mangle]
+pub extern "C" fn moss_byte_map_reserve(
+    marks: &[u8],
+    offsets: &[u16],
+    lengths: &[u8],
+    values: &[u64],
+    arena: &[u8],
+    asked: u64,
+) -> Numbers
+    ensures { λ r. ⌜ r ≡ reserveOf maps (mapMemory (now (marks .entry)) (now (offsets .entry)) (now (lengths .entry)) (now (values .entry)) (now (arena .entry))) asked ⌝ }
+{
+    reserved_numbers(byte_map::reserve(marks, offsets, lengths, values, arena, asked))
+}
+
+// The value of a key.
+#[no_mangle]
+pub extern "C" fn moss_byte_map_get(
+    marks: &[u8],
+    offsets: &[u16],
+    lengths: &[u8],
+    values: &[u64],
+    arena: &[u8],
+    key: &[u8],
+) -> Numbers
+    ensures { λ r. ⌜ r ≡ getOf maps (mapMemory (now (marks .entry)) (now (offsets .entry)) (now (lengths .entry)) (now (values .entry)) (now (arena .entry))) (now (key .entry)) ⌝ }
+{
+    got_numbers(byte_map::get(marks, offsets, lengths, values, arena, key))
+}
+
+// Whether a key is there.
+#[no_mangle]
+pub extern "C" fn moss_byte_map_contains_key(
+    marks: &[u8],
+    offsets: &[u16],
+    lengths: &[u8],
+    values: &[u64],
+    arena: &[u8],
+    key: &[u8],
+) -> Numbers
+    ensures { λ r. ⌜ r ≡ containsOf maps (mapMemory (now (marks .entry)) (now (offsets .entry)) (now (lengths .entry)) (now (values .entry)) (now (arena .entry))) (now (key .entry)) ⌝ }
+{
+    contained_numbers(byte_map::contains_key(marks, offsets, lengths, values, arena, key))
+}
+
+// Gives a key its value.
+#[no_mangle]
+pub extern "C" fn moss_byte_map_insert(
+    marks: &mut [u8],
+    offsets: &mut [u16],
+    lengths: &mut [u8],
+    values: &mut [u64],
+    arena: &mut [u8],
+    key: &[u8],
+    value: u64,
+) -> Numbers
+    ensures { λ r. ⌜ told r (mapMemory (now (marks .exit)) (now (offsets .exit)) (now (lengths .exit)) (now (values .exit)) (now (arena .exit))) ≡ insertOf (mapMemory (now (marks .entry)) (now (offsets .entry)) (now (lengths .entry)) (now (values .entry)) (now (arena .entry))) (now (key .entry)) value ⌝ }
+{
+    stored_numbers(byte_map::insert(marks, offsets, lengths, values, arena, key, value))
+}
+
+// Takes a key out.
+#[no_mangle]
+pub extern "C" fn moss_byte_map_remove(
+    marks: &mut [u8],
+    offsets: &mut [u16],
+    lengths: &mut [u8],
+    values: &mut [u64],
+    arena: &mut [u8],
+    key: &[u8],
+) -> Numbers
+    ensures { λ r. ⌜ told r (mapMemory (now (marks .exit)) (now (offsets .exit)) (now (lengths .exit)) (now (values .exit)) (now (arena .exit))) ≡ removeOf maps (mapMemory (now (marks .entry)) (now (offsets .entry)) (now (lengths .entry)) (now (values .entry)) (now (arena .entry))) (now (key .entry)) ⌝ }
+{
+    removed_numbers(byte_map::remove(marks, offsets, lengths, values, arena, key))
+}
+
+// Makes a map equal to another of equal sizes.
+#[no_mangle]
+pub extern "C" fn moss_byte_map_copy(
+    to_marks: &mut [u8],
+    to_offsets: &mut [u16],
+    to_lengths: &mut [u8],
+    to_values: &mut [u64],
+    to_arena: &mut [u8],
+    marks: &[u8],
+    offsets: &[u16],
+    lengths: &[u8],
+    values: &[u64],
+    arena: &[u8],
+) -> Numbers
+    ensures { λ r. ⌜ told r (mapMemory (now («to_marks» .exit)) (now («to_offsets» .exit)) (now («to_lengths» .exit)) (now («to_values» .exit)) (now («to_arena» .exit))) ≡ copyOf maps (mapMemory (now («to_marks» .entry)) (now («to_offsets» .entry)) (now («to_lengths» .entry)) (now («to_values» .entry)) (now («to_arena» .entry))) (mapMemory (now (marks .entry)) (now (offsets .entry)) (now (lengths .entry)) (now (values .entry)) (now (arena .entry))) ⌝ }
+{
+    outcome_numbers(byte_copy::copy(
+        to_marks,
+        to_offsets,
+        to_lengths,
+        to_values,
+        to_arena,
+        marks,
+        offsets,
+        lengths,
+        values,
+        arena,
+    ))
+}
+
+// Puts the right's pairs into the left, all or none.
+#[no_mangle]
+pub extern "C" fn moss_byte_map_union_prefer_right(
+    marks: &mut [u8],
+    offsets: &mut [u16],
+    lengths: &mut [u8],
+    values: &mut [u64],
+    arena: &mut [u8],
+    right_marks: &[u8],
+    right_offsets: &[u16],
+    right_lengths: &[u8],
+    right_values: &[u64],
+    right_arena: &[u8],
+) -> Numbers
+    ensures { λ r. ⌜ told r (mapMemory (now (marks .exit)) (now (offsets .exit)) (now (lengths .exit)) (now (values .exit)) (now (arena .exit))) ≡ unionOf maps (mapMemory (now (marks .entry)) (now (offsets .entry)) (now (lengths .entry)) (now (values .entry)) (now (arena .entry))) (mapMemory (now («right_marks» .entry)) (now («right_offsets» .entry)) (now («right_lengths» .entry)) (now («right_values» .entry)) (now («right_arena» .entry))) ⌝ }
+{
+    outcome_numbers(byte_union::union_prefer_right(
+        marks,
+        offsets,
+        lengths,
+        values,
+        arena,
+        right_marks,
+        right_offsets,
+        right_lengths,
+        right_values,
+        right_arena,
+    ))
+}
+
+// The numbers of a step of a walk.
+fn step_numbers(s: Step) -> Numbers
+    ensures { λ n. ⌜ n ≡ stepNumbers s ⌝ }
+{
+    let at = s.walk.at;
+    let examined = s.examined;
+    let out = s.out;
+    match out {
+        Paced::Pair(offset, length, value) => span_walk_numbers(
+            value,
+            offset,
+            length,
+            examined,
+            at,
+        ),
+        Paced::Nothing => walk_numbers(0, 15, 0, 0, examined, at),
+        Paced::Done => walk_numbers(0, 16, 0, 0, examined, at),
+        Paced::Refused(r) => walk_numbers(number(r), 0, 0, 0, examined, at),
+    }
+}
+
+// Where a walk starts.
+#[no_mangle]
+pub extern "C" fn moss_byte_map_walk_start() -> u64
+    ensures { λ r. ⌜ r ≡ 0 ⌝ }
+{
+    Walk::start().at as u64
+}
+
+// One step of a walk with a budget of slots.
+#[no_mangle]
+pub extern "C" fn moss_byte_map_step(
+    marks: &[u8],
+    offsets: &[u16],
+    lengths: &[u8],
+    values: &[u64],
+    arena: &[u8],
+    walk: u64,
+    budget: u64,
+) -> Numbers
+    ensures { λ r. ⌜ r ≡ stepOf (mapMemory (now (marks .entry)) (now (offsets .entry)) (now (lengths .entry)) (now (values .entry)) (now (arena .entry))) walk budget ⌝ }
+{
+    let from = Walk { at: walk as usize };
+    step_numbers(from.step(marks, offsets, lengths, values, arena, budget))
+}
