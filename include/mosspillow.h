@@ -18,11 +18,13 @@ extern "C" {
 
 /* Why a call is refused. Of those that apply the lowest is given. */
 enum {
-    MOSS_REFUSED_SIZES = 1,       /* lent arrays disagree in count, no slots or above 4096, copy: sizes differ */
+    MOSS_REFUSED_SIZES = 1,       /* lent arrays disagree in count, no slots or above 4096, arena above 32768, copy: sizes differ */
     MOSS_REFUSED_LONG_KEY = 2,    /* byte key above 255 bytes */
     MOSS_REFUSED_NO_BUDGET = 3,   /* walk step with budget 0 */
     MOSS_REFUSED_WALK_BEYOND = 4, /* walk beyond the last slot */
-    MOSS_REFUSED_DAMAGED = 5,     /* an examined slot has a mark above 2 */
+    MOSS_REFUSED_DAMAGED = 5,     /* an examined slot has a mark above 2, or is live with a key that ends past the arena; byte insert,
+                                   * entry, remove, union, vacant handles and removal by handle: also where the live keys together
+                                   * are longer than the arena, or one ends past the sum of their lengths */
     MOSS_REFUSED_BAD_HANDLE = 6,  /* handle not good */
     MOSS_REFUSED_NO_SLOT = 7,     /* too few free slots */
     MOSS_REFUSED_NO_BYTES = 8     /* too few free bytes */
@@ -60,8 +62,8 @@ typedef struct moss_answer {
     uint64_t slot;     /* also an entry's handle */
     uint64_t examined; /* how many slots the key's path, or the step, examined */
     uint64_t walk;     /* where the walk stands */
-    uint64_t offset;
-    uint64_t length;
+    uint64_t offset;   /* where a byte key stands in the arena */
+    uint64_t length;   /* how many bytes it has */
 } moss_answer;
 
 /* The digest (FNV-1a, 64 bits) of `length` bytes, of any length. */
@@ -213,6 +215,200 @@ uint64_t moss_int_set_walk_start(void);
  * examined, or MOSS_WALK_DONE with walk. Refuses 1, 3, 4, 5, with the walk as it came. */
 moss_answer moss_int_set_step(const uint8_t *MOSS_RESTRICT marks, size_t marks_count, const uint64_t *MOSS_RESTRICT keys, size_t keys_count,
     uint64_t walk, uint64_t budget);
+
+/* The byte map: marks, u64 values, and for each slot the offset (u16) and the length (u8) of its key in the arena, of at most
+ * 32768 bytes. A key is lent as a pointer and a length, so it may not lie in the arena. Handles are as in the integer map. */
+
+/* Makes an empty map of the lent arrays: every mark, word and arena byte becomes 0. MOSS_DONE. Refuses 1. */
+moss_answer moss_byte_map_make(uint8_t *MOSS_RESTRICT marks, size_t marks_count, uint16_t *MOSS_RESTRICT offsets, size_t offsets_count,
+    uint8_t *MOSS_RESTRICT lengths, size_t lengths_count, uint64_t *MOSS_RESTRICT values, size_t values_count,
+    uint8_t *MOSS_RESTRICT arena, size_t arena_count);
+
+/* Empties a map, as make does. MOSS_DONE. Refuses 1. */
+moss_answer moss_byte_map_clear(uint8_t *MOSS_RESTRICT marks, size_t marks_count, uint16_t *MOSS_RESTRICT offsets, size_t offsets_count,
+    uint8_t *MOSS_RESTRICT lengths, size_t lengths_count, uint64_t *MOSS_RESTRICT values, size_t values_count,
+    uint8_t *MOSS_RESTRICT arena, size_t arena_count);
+
+/* The number of slots. MOSS_COUNT with value. Refuses 1. */
+moss_answer moss_byte_map_capacity(const uint8_t *MOSS_RESTRICT marks, size_t marks_count,
+    const uint16_t *MOSS_RESTRICT offsets, size_t offsets_count, const uint8_t *MOSS_RESTRICT lengths, size_t lengths_count,
+    const uint64_t *MOSS_RESTRICT values, size_t values_count, const uint8_t *MOSS_RESTRICT arena, size_t arena_count);
+
+/* The number of keys. MOSS_COUNT with value. Refuses 1, 5. */
+moss_answer moss_byte_map_len(const uint8_t *MOSS_RESTRICT marks, size_t marks_count, const uint16_t *MOSS_RESTRICT offsets, size_t offsets_count,
+    const uint8_t *MOSS_RESTRICT lengths, size_t lengths_count, const uint64_t *MOSS_RESTRICT values, size_t values_count,
+    const uint8_t *MOSS_RESTRICT arena, size_t arena_count);
+
+/* Whether there is no key. MOSS_EMPTY or MOSS_HOLDS. Refuses 1, 5. */
+moss_answer moss_byte_map_is_empty(const uint8_t *MOSS_RESTRICT marks, size_t marks_count,
+    const uint16_t *MOSS_RESTRICT offsets, size_t offsets_count, const uint8_t *MOSS_RESTRICT lengths, size_t lengths_count,
+    const uint64_t *MOSS_RESTRICT values, size_t values_count, const uint8_t *MOSS_RESTRICT arena, size_t arena_count);
+
+/* Whether `asked` slots or more are not live. MOSS_ROOM. Refuses 1, 5, 7. */
+moss_answer moss_byte_map_reserve(const uint8_t *MOSS_RESTRICT marks, size_t marks_count,
+    const uint16_t *MOSS_RESTRICT offsets, size_t offsets_count, const uint8_t *MOSS_RESTRICT lengths, size_t lengths_count,
+    const uint64_t *MOSS_RESTRICT values, size_t values_count, const uint8_t *MOSS_RESTRICT arena, size_t arena_count, uint64_t asked);
+
+/* The value of a key. MOSS_FOUND with value, slot and examined, or MOSS_ABSENT with examined. Refuses 1, 2, 5. */
+moss_answer moss_byte_map_get(const uint8_t *MOSS_RESTRICT marks, size_t marks_count, const uint16_t *MOSS_RESTRICT offsets, size_t offsets_count,
+    const uint8_t *MOSS_RESTRICT lengths, size_t lengths_count, const uint64_t *MOSS_RESTRICT values, size_t values_count,
+    const uint8_t *MOSS_RESTRICT arena, size_t arena_count, const uint8_t *MOSS_RESTRICT key, size_t key_length);
+
+/* Whether a key is there. MOSS_PRESENT or MOSS_ABSENT with examined. Refuses 1, 2, 5. */
+moss_answer moss_byte_map_contains_key(const uint8_t *MOSS_RESTRICT marks, size_t marks_count,
+    const uint16_t *MOSS_RESTRICT offsets, size_t offsets_count, const uint8_t *MOSS_RESTRICT lengths, size_t lengths_count,
+    const uint64_t *MOSS_RESTRICT values, size_t values_count, const uint8_t *MOSS_RESTRICT arena, size_t arena_count,
+    const uint8_t *MOSS_RESTRICT key, size_t key_length);
+
+/* Gives a key its value. MOSS_FRESH with slot, offset and examined, or MOSS_REPLACED with the old value, slot and examined.
+ * Refuses 1, 2, 5, 7, 8. */
+moss_answer moss_byte_map_insert(uint8_t *MOSS_RESTRICT marks, size_t marks_count, uint16_t *MOSS_RESTRICT offsets, size_t offsets_count,
+    uint8_t *MOSS_RESTRICT lengths, size_t lengths_count, uint64_t *MOSS_RESTRICT values, size_t values_count,
+    uint8_t *MOSS_RESTRICT arena, size_t arena_count, const uint8_t *MOSS_RESTRICT key, size_t key_length, uint64_t value);
+
+/* Takes a key out, and closes the gap of its bytes. MOSS_REMOVED with its value, slot and examined, or MOSS_ABSENT with examined.
+ * Refuses 1, 2, 5. */
+moss_answer moss_byte_map_remove(uint8_t *MOSS_RESTRICT marks, size_t marks_count, uint16_t *MOSS_RESTRICT offsets, size_t offsets_count,
+    uint8_t *MOSS_RESTRICT lengths, size_t lengths_count, uint64_t *MOSS_RESTRICT values, size_t values_count,
+    uint8_t *MOSS_RESTRICT arena, size_t arena_count, const uint8_t *MOSS_RESTRICT key, size_t key_length);
+
+/* Makes the map of the to_ arrays equal to the other in every slot and byte; both have the same sizes. MOSS_DONE. Refuses 1. */
+moss_answer moss_byte_map_copy(uint8_t *MOSS_RESTRICT to_marks, size_t to_marks_count, uint16_t *MOSS_RESTRICT to_offsets, size_t to_offsets_count,
+    uint8_t *MOSS_RESTRICT to_lengths, size_t to_lengths_count, uint64_t *MOSS_RESTRICT to_values, size_t to_values_count,
+    uint8_t *MOSS_RESTRICT to_arena, size_t to_arena_count, const uint8_t *MOSS_RESTRICT marks, size_t marks_count,
+    const uint16_t *MOSS_RESTRICT offsets, size_t offsets_count, const uint8_t *MOSS_RESTRICT lengths, size_t lengths_count,
+    const uint64_t *MOSS_RESTRICT values, size_t values_count, const uint8_t *MOSS_RESTRICT arena, size_t arena_count);
+
+/* Puts the right's pairs into the left (the arrays without right_), all or none; the right may have another slot count and arena.
+ * MOSS_DONE. Refuses 1, 5, 7, 8. */
+moss_answer moss_byte_map_union_prefer_right(uint8_t *MOSS_RESTRICT marks, size_t marks_count,
+    uint16_t *MOSS_RESTRICT offsets, size_t offsets_count, uint8_t *MOSS_RESTRICT lengths, size_t lengths_count,
+    uint64_t *MOSS_RESTRICT values, size_t values_count, uint8_t *MOSS_RESTRICT arena, size_t arena_count,
+    const uint8_t *MOSS_RESTRICT right_marks, size_t right_marks_count, const uint16_t *MOSS_RESTRICT right_offsets, size_t right_offsets_count,
+    const uint8_t *MOSS_RESTRICT right_lengths, size_t right_lengths_count, const uint64_t *MOSS_RESTRICT right_values, size_t right_values_count,
+    const uint8_t *MOSS_RESTRICT right_arena, size_t right_arena_count);
+
+/* Where a key stands or would go. MOSS_OCCUPIED with slot, value and examined, or MOSS_VACANT with slot and examined.
+ * Refuses 1, 2, 5, 7, 8. */
+moss_answer moss_byte_map_entry(const uint8_t *MOSS_RESTRICT marks, size_t marks_count,
+    const uint16_t *MOSS_RESTRICT offsets, size_t offsets_count, const uint8_t *MOSS_RESTRICT lengths, size_t lengths_count,
+    const uint64_t *MOSS_RESTRICT values, size_t values_count, const uint8_t *MOSS_RESTRICT arena, size_t arena_count,
+    const uint8_t *MOSS_RESTRICT key, size_t key_length);
+
+/* An occupied handle's value. MOSS_VALUE with value and slot. Refuses 1, 2, 5, 6. */
+moss_answer moss_byte_map_occupied_get(const uint8_t *MOSS_RESTRICT marks, size_t marks_count,
+    const uint16_t *MOSS_RESTRICT offsets, size_t offsets_count, const uint8_t *MOSS_RESTRICT lengths, size_t lengths_count,
+    const uint64_t *MOSS_RESTRICT values, size_t values_count, const uint8_t *MOSS_RESTRICT arena, size_t arena_count, uint64_t slot,
+    const uint8_t *MOSS_RESTRICT key, size_t key_length);
+
+/* Gives an occupied handle's slot another value. MOSS_WAS with the old value and slot. Refuses 1, 2, 5, 6. */
+moss_answer moss_byte_map_occupied_set(uint8_t *MOSS_RESTRICT marks, size_t marks_count, uint16_t *MOSS_RESTRICT offsets, size_t offsets_count,
+    uint8_t *MOSS_RESTRICT lengths, size_t lengths_count, uint64_t *MOSS_RESTRICT values, size_t values_count,
+    uint8_t *MOSS_RESTRICT arena, size_t arena_count, uint64_t slot, const uint8_t *MOSS_RESTRICT key, size_t key_length, uint64_t value);
+
+/* Frees an occupied handle's slot, and closes the gap of its bytes. MOSS_REMOVED with value. Refuses 1, 2, 5, 6. */
+moss_answer moss_byte_map_occupied_remove(uint8_t *MOSS_RESTRICT marks, size_t marks_count, uint16_t *MOSS_RESTRICT offsets, size_t offsets_count,
+    uint8_t *MOSS_RESTRICT lengths, size_t lengths_count, uint64_t *MOSS_RESTRICT values, size_t values_count,
+    uint8_t *MOSS_RESTRICT arena, size_t arena_count, uint64_t slot, const uint8_t *MOSS_RESTRICT key, size_t key_length);
+
+/* The same; the key is the one given. MOSS_REMOVED with value. Refuses 1, 2, 5, 6. */
+moss_answer moss_byte_map_occupied_remove_entry(uint8_t *MOSS_RESTRICT marks, size_t marks_count,
+    uint16_t *MOSS_RESTRICT offsets, size_t offsets_count, uint8_t *MOSS_RESTRICT lengths, size_t lengths_count,
+    uint64_t *MOSS_RESTRICT values, size_t values_count, uint8_t *MOSS_RESTRICT arena, size_t arena_count, uint64_t slot,
+    const uint8_t *MOSS_RESTRICT key, size_t key_length);
+
+/* Puts the key and a value into a vacant handle's slot. MOSS_NOW with value and slot. Refuses 1, 2, 5, 6. */
+moss_answer moss_byte_map_vacant_insert(uint8_t *MOSS_RESTRICT marks, size_t marks_count, uint16_t *MOSS_RESTRICT offsets, size_t offsets_count,
+    uint8_t *MOSS_RESTRICT lengths, size_t lengths_count, uint64_t *MOSS_RESTRICT values, size_t values_count,
+    uint8_t *MOSS_RESTRICT arena, size_t arena_count, uint64_t slot, const uint8_t *MOSS_RESTRICT key, size_t key_length, uint64_t value);
+
+/* Keeps the value of an occupied handle, or puts `value` into a vacant one's slot. MOSS_NOW with the value now there
+ * and slot. Refuses 1, 2, 5, 6. */
+moss_answer moss_byte_map_or_insert(uint8_t *MOSS_RESTRICT marks, size_t marks_count, uint16_t *MOSS_RESTRICT offsets, size_t offsets_count,
+    uint8_t *MOSS_RESTRICT lengths, size_t lengths_count, uint64_t *MOSS_RESTRICT values, size_t values_count,
+    uint8_t *MOSS_RESTRICT arena, size_t arena_count, uint64_t which, uint64_t slot, const uint8_t *MOSS_RESTRICT key, size_t key_length,
+    uint64_t value);
+
+/* Gives an occupied handle's slot the value, or puts it into a vacant one's slot. MOSS_NOW with value and slot. Refuses 1, 2, 5, 6. */
+moss_answer moss_byte_map_insert_entry(uint8_t *MOSS_RESTRICT marks, size_t marks_count, uint16_t *MOSS_RESTRICT offsets, size_t offsets_count,
+    uint8_t *MOSS_RESTRICT lengths, size_t lengths_count, uint64_t *MOSS_RESTRICT values, size_t values_count,
+    uint8_t *MOSS_RESTRICT arena, size_t arena_count, uint64_t which, uint64_t slot, const uint8_t *MOSS_RESTRICT key, size_t key_length,
+    uint64_t value);
+
+/* Where a walk starts: 0. */
+uint64_t moss_byte_map_walk_start(void);
+
+/* One step of a walk over at most `budget` slots. MOSS_PAIR with offset, length, value, walk and examined, MOSS_NOTHING with walk
+ * and examined, or MOSS_WALK_DONE with walk. Refuses 1, 3, 4, 5, with the walk as it came. */
+moss_answer moss_byte_map_step(const uint8_t *MOSS_RESTRICT marks, size_t marks_count, const uint16_t *MOSS_RESTRICT offsets, size_t offsets_count,
+    const uint8_t *MOSS_RESTRICT lengths, size_t lengths_count, const uint64_t *MOSS_RESTRICT values, size_t values_count,
+    const uint8_t *MOSS_RESTRICT arena, size_t arena_count, uint64_t walk, uint64_t budget);
+
+/* The byte set: the same without values. */
+
+/* Makes an empty set of the lent arrays: every mark, word and arena byte becomes 0. MOSS_DONE. Refuses 1. */
+moss_answer moss_byte_set_make(uint8_t *MOSS_RESTRICT marks, size_t marks_count, uint16_t *MOSS_RESTRICT offsets, size_t offsets_count,
+    uint8_t *MOSS_RESTRICT lengths, size_t lengths_count, uint8_t *MOSS_RESTRICT arena, size_t arena_count);
+
+/* Empties a set, as make does. MOSS_DONE. Refuses 1. */
+moss_answer moss_byte_set_clear(uint8_t *MOSS_RESTRICT marks, size_t marks_count, uint16_t *MOSS_RESTRICT offsets, size_t offsets_count,
+    uint8_t *MOSS_RESTRICT lengths, size_t lengths_count, uint8_t *MOSS_RESTRICT arena, size_t arena_count);
+
+/* The number of slots. MOSS_COUNT with value. Refuses 1. */
+moss_answer moss_byte_set_capacity(const uint8_t *MOSS_RESTRICT marks, size_t marks_count,
+    const uint16_t *MOSS_RESTRICT offsets, size_t offsets_count, const uint8_t *MOSS_RESTRICT lengths, size_t lengths_count,
+    const uint8_t *MOSS_RESTRICT arena, size_t arena_count);
+
+/* The number of keys. MOSS_COUNT with value. Refuses 1, 5. */
+moss_answer moss_byte_set_len(const uint8_t *MOSS_RESTRICT marks, size_t marks_count, const uint16_t *MOSS_RESTRICT offsets, size_t offsets_count,
+    const uint8_t *MOSS_RESTRICT lengths, size_t lengths_count, const uint8_t *MOSS_RESTRICT arena, size_t arena_count);
+
+/* Whether there is no key. MOSS_EMPTY or MOSS_HOLDS. Refuses 1, 5. */
+moss_answer moss_byte_set_is_empty(const uint8_t *MOSS_RESTRICT marks, size_t marks_count,
+    const uint16_t *MOSS_RESTRICT offsets, size_t offsets_count, const uint8_t *MOSS_RESTRICT lengths, size_t lengths_count,
+    const uint8_t *MOSS_RESTRICT arena, size_t arena_count);
+
+/* Whether `asked` slots or more are not live. MOSS_ROOM. Refuses 1, 5, 7. */
+moss_answer moss_byte_set_reserve(const uint8_t *MOSS_RESTRICT marks, size_t marks_count,
+    const uint16_t *MOSS_RESTRICT offsets, size_t offsets_count, const uint8_t *MOSS_RESTRICT lengths, size_t lengths_count,
+    const uint8_t *MOSS_RESTRICT arena, size_t arena_count, uint64_t asked);
+
+/* Where the key is stored. MOSS_FOUND with offset, length, slot and examined, or MOSS_ABSENT with examined. Refuses 1, 2, 5. */
+moss_answer moss_byte_set_get(const uint8_t *MOSS_RESTRICT marks, size_t marks_count, const uint16_t *MOSS_RESTRICT offsets, size_t offsets_count,
+    const uint8_t *MOSS_RESTRICT lengths, size_t lengths_count, const uint8_t *MOSS_RESTRICT arena, size_t arena_count,
+    const uint8_t *MOSS_RESTRICT key, size_t key_length);
+
+/* Whether a key is there. MOSS_PRESENT or MOSS_ABSENT with examined. Refuses 1, 2, 5. */
+moss_answer moss_byte_set_contains(const uint8_t *MOSS_RESTRICT marks, size_t marks_count,
+    const uint16_t *MOSS_RESTRICT offsets, size_t offsets_count, const uint8_t *MOSS_RESTRICT lengths, size_t lengths_count,
+    const uint8_t *MOSS_RESTRICT arena, size_t arena_count, const uint8_t *MOSS_RESTRICT key, size_t key_length);
+
+/* Puts a key in. MOSS_FRESH with slot, offset and examined, or MOSS_REPLACED with slot and examined where it was there already.
+ * Refuses 1, 2, 5, 7, 8. */
+moss_answer moss_byte_set_insert(uint8_t *MOSS_RESTRICT marks, size_t marks_count, uint16_t *MOSS_RESTRICT offsets, size_t offsets_count,
+    uint8_t *MOSS_RESTRICT lengths, size_t lengths_count, uint8_t *MOSS_RESTRICT arena, size_t arena_count,
+    const uint8_t *MOSS_RESTRICT key, size_t key_length);
+
+/* Takes a key out, and closes the gap of its bytes. MOSS_REMOVED with slot and examined, or MOSS_ABSENT with examined.
+ * Refuses 1, 2, 5. */
+moss_answer moss_byte_set_remove(uint8_t *MOSS_RESTRICT marks, size_t marks_count, uint16_t *MOSS_RESTRICT offsets, size_t offsets_count,
+    uint8_t *MOSS_RESTRICT lengths, size_t lengths_count, uint8_t *MOSS_RESTRICT arena, size_t arena_count,
+    const uint8_t *MOSS_RESTRICT key, size_t key_length);
+
+/* Makes the set of the to_ arrays equal to the other in every slot and byte; both have the same sizes. MOSS_DONE. Refuses 1. */
+moss_answer moss_byte_set_copy(uint8_t *MOSS_RESTRICT to_marks, size_t to_marks_count, uint16_t *MOSS_RESTRICT to_offsets, size_t to_offsets_count,
+    uint8_t *MOSS_RESTRICT to_lengths, size_t to_lengths_count, uint8_t *MOSS_RESTRICT to_arena, size_t to_arena_count,
+    const uint8_t *MOSS_RESTRICT marks, size_t marks_count, const uint16_t *MOSS_RESTRICT offsets, size_t offsets_count,
+    const uint8_t *MOSS_RESTRICT lengths, size_t lengths_count, const uint8_t *MOSS_RESTRICT arena, size_t arena_count);
+
+/* Where a walk starts: 0. */
+uint64_t moss_byte_set_walk_start(void);
+
+/* One step of a walk over at most `budget` slots. MOSS_PAIR with offset, length, walk and examined, MOSS_NOTHING with walk
+ * and examined, or MOSS_WALK_DONE with walk. Refuses 1, 3, 4, 5, with the walk as it came. */
+moss_answer moss_byte_set_step(const uint8_t *MOSS_RESTRICT marks, size_t marks_count, const uint16_t *MOSS_RESTRICT offsets, size_t offsets_count,
+    const uint8_t *MOSS_RESTRICT lengths, size_t lengths_count, const uint8_t *MOSS_RESTRICT arena, size_t arena_count, uint64_t walk,
+    uint64_t budget);
 
 #ifdef __cplusplus
 }
