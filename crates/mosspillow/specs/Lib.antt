@@ -1,3 +1,2 @@
--- What the C library hands back, and what it is handed.
+-- What the C library hands back.
 pub mod Returned
-pub mod Handed

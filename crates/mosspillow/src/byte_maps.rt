@@ -3,22 +3,17 @@ ghost use mathlib.Core.Path.{_≡_};
 ghost use Rattle.kinds.specs.Told.{told};
 ghost use Rattle.kinds.specs.Calls.{makeOf, capacityOf, lenOf, isEmptyOf, reserveOf, getOf, containsOf, removeOf, copyOf, unionOf};
 ghost use Rattle.spans.specs.Kinds.{maps, mapMemory, insertOf, stepOf};
-ghost use Rattle.byte_walk.specs.Numbers.{stepNumbers};
-use crate::span_walk_numbers;
-use crate::walk_numbers;
 use answers::Numbers;
 use answers::contained_numbers;
 use answers::counted_numbers;
 use answers::emptiness_numbers;
 use answers::got_numbers;
-use answers::number;
 use answers::outcome_numbers;
 use answers::removed_numbers;
 use answers::reserved_numbers;
 use answers::stored_numbers;
-use byte_walk::Paced;
-use byte_walk::Step;
 use byte_walk::Walk;
+use numbers::byte_maps::step_numbers;
 
 // Makes an empty map of the lent arrays.
 #[no_mangle]
@@ -224,27 +219,6 @@ pub extern "C" fn moss_byte_map_union_prefer_right(
         right_values,
         right_arena,
     ))
-}
-
-// The numbers of a step of a walk.
-fn step_numbers(s: Step) -> Numbers
-    ensures { λ n. ⌜ n ≡ stepNumbers s ⌝ }
-{
-    let at = s.walk.at;
-    let examined = s.examined;
-    let out = s.out;
-    match out {
-        Paced::Pair(offset, length, value) => span_walk_numbers(
-            value,
-            offset,
-            length,
-            examined,
-            at,
-        ),
-        Paced::Nothing => walk_numbers(0, 15, 0, 0, examined, at),
-        Paced::Done => walk_numbers(0, 16, 0, 0, examined, at),
-        Paced::Refused(r) => walk_numbers(number(r), 0, 0, 0, examined, at),
-    }
 }
 
 // Where a walk starts.

@@ -3,22 +3,17 @@ ghost use mathlib.Core.Path.{_≡_};
 ghost use Rattle.kinds.specs.Told.{told};
 ghost use Rattle.kinds.specs.Calls.{makeOf, capacityOf, lenOf, isEmptyOf, reserveOf, containsOf, copyOf, droppedOf};
 ghost use Rattle.spans.specs.Kinds.{sets, setMemory, joinOf, spanOf, setStepOf};
-ghost use Rattle.byte_set.specs.Numbers.{stepNumbers};
-use crate::span_walk_numbers;
-use crate::walk_numbers;
 use answers::Numbers;
 use answers::contained_numbers;
 use answers::counted_numbers;
 use answers::dropped_numbers;
 use answers::emptiness_numbers;
 use answers::joined_numbers;
-use answers::number;
 use answers::outcome_numbers;
 use answers::reserved_numbers;
 use answers::spanned_numbers;
-use byte_set::Paced;
-use byte_set::Step;
 use byte_set::Walk;
+use numbers::byte_sets::step_numbers;
 
 // Makes an empty set of the lent arrays.
 #[no_mangle]
@@ -179,21 +174,6 @@ pub extern "C" fn moss_byte_set_copy(
         lengths,
         arena,
     ))
-}
-
-// The numbers of a step of a walk.
-fn step_numbers(s: Step) -> Numbers
-    ensures { λ n. ⌜ n ≡ stepNumbers s ⌝ }
-{
-    let at = s.walk.at;
-    let examined = s.examined;
-    let out = s.out;
-    match out {
-        Paced::Member(offset, length) => span_walk_numbers(0, offset, length, examined, at),
-        Paced::Nothing => walk_numbers(0, 15, 0, 0, examined, at),
-        Paced::Done => walk_numbers(0, 16, 0, 0, examined, at),
-        Paced::Refused(r) => walk_numbers(number(r), 0, 0, 0, examined, at),
-    }
 }
 
 // Where a walk starts.

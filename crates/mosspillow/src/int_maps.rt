@@ -5,21 +5,17 @@ ghost use Rattle.ints.specs.Memory.{memory};
 ghost use Rattle.int_map.specs.Calls.{makeOf, capacityOf, lenOf, isEmptyOf, reserveOf, getOf, containsKeyOf, insertOf, removeOf, copyOf};
 ghost use Rattle.int_union.specs.Calls.{unionOf};
 ghost use Rattle.int_walk.specs.Calls.{stepOf};
-ghost use Rattle.int_walk.specs.Numbers.{stepNumbers};
-use crate::walk_numbers;
 use answers::Numbers;
 use answers::contained_numbers;
 use answers::counted_numbers;
 use answers::emptiness_numbers;
 use answers::got_numbers;
 use answers::inserted_numbers;
-use answers::number;
 use answers::outcome_numbers;
 use answers::removed_numbers;
 use answers::reserved_numbers;
-use int_walk::Paced;
-use int_walk::Step;
 use int_walk::Walk;
+use numbers::int_maps::step_numbers;
 
 // Makes an empty map of the lent arrays.
 #[no_mangle]
@@ -165,21 +161,6 @@ pub extern "C" fn moss_int_map_union_prefer_right(
         right_keys,
         right_values,
     ))
-}
-
-// The numbers of a step of a walk.
-fn step_numbers(s: Step) -> Numbers
-    ensures { λ n. ⌜ n ≡ stepNumbers s ⌝ }
-{
-    let at = s.walk.at;
-    let examined = s.examined;
-    let out = s.out;
-    match out {
-        Paced::Pair(key, value) => walk_numbers(0, 14, key, value, examined, at),
-        Paced::Nothing => walk_numbers(0, 15, 0, 0, examined, at),
-        Paced::Done => walk_numbers(0, 16, 0, 0, examined, at),
-        Paced::Refused(r) => walk_numbers(number(r), 0, 0, 0, examined, at),
-    }
 }
 
 // Where a walk starts.

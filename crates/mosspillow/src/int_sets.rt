@@ -3,8 +3,6 @@ ghost use mathlib.Core.Path.{_≡_};
 ghost use Rattle.kinds.specs.Told.{told};
 ghost use Rattle.int_set.specs.Memory.{memory};
 ghost use Rattle.int_set.specs.Calls.{makeOf, capacityOf, lenOf, isEmptyOf, reserveOf, getOf, containsOf, insertOf, removeOf, copyOf, stepOf};
-ghost use Rattle.int_set.specs.Numbers.{stepNumbers};
-use crate::walk_numbers;
 use answers::Numbers;
 use answers::added_numbers;
 use answers::contained_numbers;
@@ -12,12 +10,10 @@ use answers::counted_numbers;
 use answers::dropped_numbers;
 use answers::emptiness_numbers;
 use answers::member_numbers;
-use answers::number;
 use answers::outcome_numbers;
 use answers::reserved_numbers;
-use int_set::Paced;
-use int_set::Step;
 use int_set::Walk;
+use numbers::int_sets::step_numbers;
 
 // Makes an empty set of the lent arrays.
 #[no_mangle]
@@ -110,21 +106,6 @@ pub extern "C" fn moss_int_set_copy(
     ensures { λ r. ⌜ told r (memory (now («to_marks» .exit)) (now («to_keys» .exit))) ≡ copyOf (memory (now («to_marks» .entry)) (now («to_keys» .entry))) (memory (now (marks .entry)) (now (keys .entry))) ⌝ }
 {
     outcome_numbers(int_set::copy(to_marks, to_keys, marks, keys))
-}
-
-// The numbers of a step of a walk.
-fn step_numbers(s: Step) -> Numbers
-    ensures { λ n. ⌜ n ≡ stepNumbers s ⌝ }
-{
-    let at = s.walk.at;
-    let examined = s.examined;
-    let out = s.out;
-    match out {
-        Paced::Member(key) => walk_numbers(0, 14, key, 0, examined, at),
-        Paced::Nothing => walk_numbers(0, 15, 0, 0, examined, at),
-        Paced::Done => walk_numbers(0, 16, 0, 0, examined, at),
-        Paced::Refused(r) => walk_numbers(number(r), 0, 0, 0, examined, at),
-    }
 }
 
 // Where a walk starts.

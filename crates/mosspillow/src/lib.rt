@@ -1,11 +1,9 @@
 // The C library: thin wrappers of the published calls. include/mosspillow.h declares them.
 ghost use mathlib.Core.Path.{_≡_};
 ghost use Rattle.answers.specs.Numbers.{homedNumbers};
-ghost use Rattle.answers.specs.Said.{handed};
 ghost use Rattle.digest.specs.Digest.{digestOf};
 ghost use Rattle.digest.specs.Home.{homedOf};
 ghost use Rattle.mosspillow.specs.Returned.{returned};
-ghost use Rattle.mosspillow.specs.Handed.{walked};
 use answers::Homed;
 use answers::Numbers;
 use answers::number;
@@ -39,52 +37,5 @@ pub extern "C" fn moss_home(bytes: &[u8], slots: u64) -> u64
     match answer {
         Homed::At(slot) => slot,
         Homed::Refused(refusal) => REFUSED + number(refusal),
-    }
-}
-
-// The numbers of a step that left its walk at this slot.
-fn walk_numbers(
-    refusal: u64,
-    case: u64,
-    key: u64,
-    value: u64,
-    examined: usize,
-    walk: usize,
-) -> Numbers
-    ensures { λ n. ⌜ n ≡ walked refusal case key value examined walk ⌝ }
-{
-    Numbers {
-        refusal,
-        case,
-        key,
-        value,
-        slot: 0,
-        examined: examined as u64,
-        walk: walk as u64,
-        offset: 0,
-        length: 0,
-    }
-}
-
-// The numbers of a step that hands out a key's offset and length, and in a map its value, and left its walk at this slot.
-fn span_walk_numbers(
-    value: u64,
-    offset: usize,
-    length: usize,
-    examined: usize,
-    at: usize,
-) -> Numbers
-    ensures { λ n. ⌜ n ≡ handed 0 value offset length at examined ⌝ }
-{
-    Numbers {
-        refusal: 0,
-        case: 14,
-        key: 0,
-        value,
-        slot: 0,
-        examined: examined as u64,
-        walk: at as u64,
-        offset: offset as u64,
-        length: length as u64,
     }
 }

@@ -1,0 +1,30 @@
+// The byte map's walk: the numbers of a step.
+ghost use mathlib.Core.Path.{_≡_};
+ghost use Rattle.byte_walk.specs.Numbers.{stepNumbers};
+use crate::span_walk_numbers;
+use crate::walk_numbers;
+use answers::Numbers;
+use answers::number;
+use byte_walk::Paced;
+use byte_walk::Step;
+
+// The numbers of a step of a walk.
+pub fn step_numbers(s: Step) -> Numbers
+    ensures { λ n. ⌜ n ≡ stepNumbers s ⌝ }
+{
+    let at = s.walk.at;
+    let examined = s.examined;
+    let out = s.out;
+    match out {
+        Paced::Pair(offset, length, value) => span_walk_numbers(
+            value,
+            offset,
+            length,
+            examined,
+            at,
+        ),
+        Paced::Nothing => walk_numbers(0, 15, 0, 0, examined, at),
+        Paced::Done => walk_numbers(0, 16, 0, 0, examined, at),
+        Paced::Refused(r) => walk_numbers(number(r), 0, 0, 0, examined, at),
+    }
+}

@@ -1,0 +1,24 @@
+// The byte set's walk: the numbers of a step.
+ghost use mathlib.Core.Path.{_≡_};
+ghost use Rattle.byte_set.specs.Numbers.{stepNumbers};
+use crate::span_walk_numbers;
+use crate::walk_numbers;
+use answers::Numbers;
+use answers::number;
+use byte_set::Paced;
+use byte_set::Step;
+
+// The numbers of a step of a walk.
+pub fn step_numbers(s: Step) -> Numbers
+    ensures { λ n. ⌜ n ≡ stepNumbers s ⌝ }
+{
+    let at = s.walk.at;
+    let examined = s.examined;
+    let out = s.out;
+    match out {
+        Paced::Member(offset, length) => span_walk_numbers(0, offset, length, examined, at),
+        Paced::Nothing => walk_numbers(0, 15, 0, 0, examined, at),
+        Paced::Done => walk_numbers(0, 16, 0, 0, examined, at),
+        Paced::Refused(r) => walk_numbers(number(r), 0, 0, 0, examined, at),
+    }
+}

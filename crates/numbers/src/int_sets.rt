@@ -1,0 +1,23 @@
+// The integer set's walk: the numbers of a step.
+ghost use mathlib.Core.Path.{_≡_};
+ghost use Rattle.int_set.specs.Numbers.{stepNumbers};
+use crate::walk_numbers;
+use answers::Numbers;
+use answers::number;
+use int_set::Paced;
+use int_set::Step;
+
+// The numbers of a step of a walk.
+pub fn step_numbers(s: Step) -> Numbers
+    ensures { λ n. ⌜ n ≡ stepNumbers s ⌝ }
+{
+    let at = s.walk.at;
+    let examined = s.examined;
+    let out = s.out;
+    match out {
+        Paced::Member(key) => walk_numbers(0, 14, key, 0, examined, at),
+        Paced::Nothing => walk_numbers(0, 15, 0, 0, examined, at),
+        Paced::Done => walk_numbers(0, 16, 0, 0, examined, at),
+        Paced::Refused(r) => walk_numbers(number(r), 0, 0, 0, examined, at),
+    }
+}
