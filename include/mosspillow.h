@@ -410,6 +410,418 @@ moss_answer moss_byte_set_step(const uint8_t *MOSS_RESTRICT marks, size_t marks_
     const uint8_t *MOSS_RESTRICT lengths, size_t lengths_count, const uint8_t *MOSS_RESTRICT arena, size_t arena_count, uint64_t walk,
     uint64_t budget);
 
+/* ---- Tables as structs ----
+ *
+ * A struct bundles a table's lent arrays. MOSS_INT_MAP(name, S) declares one with its static storage; it is empty, as if made. The
+ * moss_im_ calls take such a struct and do what the moss_int_map_ call of that name does; moss_is_, moss_bm_ and moss_bs_ are
+ * those of integer sets, byte maps and byte sets. */
+
+/* An integer map's lent arrays. */
+typedef struct moss_int_map {
+    uint8_t *marks;
+    uint64_t *keys;
+    uint64_t *values;
+    size_t slots;
+} moss_int_map;
+
+/* An integer set's lent arrays. */
+typedef struct moss_int_set {
+    uint8_t *marks;
+    uint64_t *keys;
+    size_t slots;
+} moss_int_set;
+
+/* A byte map's lent arrays. */
+typedef struct moss_byte_map {
+    uint8_t *marks;
+    uint16_t *offsets;
+    uint8_t *lengths;
+    uint64_t *values;
+    uint8_t *arena;
+    size_t slots;
+    size_t arena_size;
+} moss_byte_map;
+
+/* A byte set's lent arrays. */
+typedef struct moss_byte_set {
+    uint8_t *marks;
+    uint16_t *offsets;
+    uint8_t *lengths;
+    uint8_t *arena;
+    size_t slots;
+    size_t arena_size;
+} moss_byte_set;
+
+/* A table `name` of S slots, and A arena bytes, which may be 0. Storage that is all zeros is a made table. */
+#define MOSS_INT_MAP(name, S) \
+    static uint8_t name##_marks[S]; \
+    static uint64_t name##_keys[S]; \
+    static uint64_t name##_values[S]; \
+    static const moss_int_map name = {name##_marks, name##_keys, name##_values, S}
+#define MOSS_INT_SET(name, S) \
+    static uint8_t name##_marks[S]; \
+    static uint64_t name##_keys[S]; \
+    static const moss_int_set name = {name##_marks, name##_keys, S}
+#define MOSS_BYTE_MAP(name, S, A) \
+    static uint8_t name##_marks[S]; \
+    static uint16_t name##_offsets[S]; \
+    static uint8_t name##_lengths[S]; \
+    static uint64_t name##_values[S]; \
+    static uint8_t name##_arena[(A) + ((A) == 0)]; \
+    static const moss_byte_map name = {name##_marks, name##_offsets, name##_lengths, name##_values, name##_arena, S, A}
+#define MOSS_BYTE_SET(name, S, A) \
+    static uint8_t name##_marks[S]; \
+    static uint16_t name##_offsets[S]; \
+    static uint8_t name##_lengths[S]; \
+    static uint8_t name##_arena[(A) + ((A) == 0)]; \
+    static const moss_byte_set name = {name##_marks, name##_offsets, name##_lengths, name##_arena, S, A}
+
+/* A struct's arrays as arguments. */
+#define MOSS_LENT_INT_MAP(t) (t)->marks, (t)->slots, (t)->keys, (t)->slots, (t)->values, (t)->slots
+#define MOSS_LENT_INT_SET(t) (t)->marks, (t)->slots, (t)->keys, (t)->slots
+#define MOSS_LENT_BYTE_MAP(t) \
+    (t)->marks, (t)->slots, (t)->offsets, (t)->slots, (t)->lengths, (t)->slots, (t)->values, (t)->slots, (t)->arena, (t)->arena_size
+#define MOSS_LENT_BYTE_SET(t) \
+    (t)->marks, (t)->slots, (t)->offsets, (t)->slots, (t)->lengths, (t)->slots, (t)->arena, (t)->arena_size
+
+/* The calls of an integer map's struct. */
+
+static inline moss_answer moss_im_make(const moss_int_map *t)
+{
+    return moss_int_map_make(MOSS_LENT_INT_MAP(t));
+}
+
+static inline moss_answer moss_im_clear(const moss_int_map *t)
+{
+    return moss_int_map_clear(MOSS_LENT_INT_MAP(t));
+}
+
+static inline moss_answer moss_im_capacity(const moss_int_map *t)
+{
+    return moss_int_map_capacity(MOSS_LENT_INT_MAP(t));
+}
+
+static inline moss_answer moss_im_len(const moss_int_map *t)
+{
+    return moss_int_map_len(MOSS_LENT_INT_MAP(t));
+}
+
+static inline moss_answer moss_im_is_empty(const moss_int_map *t)
+{
+    return moss_int_map_is_empty(MOSS_LENT_INT_MAP(t));
+}
+
+static inline moss_answer moss_im_reserve(const moss_int_map *t, uint64_t asked)
+{
+    return moss_int_map_reserve(MOSS_LENT_INT_MAP(t), asked);
+}
+
+static inline moss_answer moss_im_get(const moss_int_map *t, uint64_t key)
+{
+    return moss_int_map_get(MOSS_LENT_INT_MAP(t), key);
+}
+
+static inline moss_answer moss_im_contains_key(const moss_int_map *t, uint64_t key)
+{
+    return moss_int_map_contains_key(MOSS_LENT_INT_MAP(t), key);
+}
+
+static inline moss_answer moss_im_insert(const moss_int_map *t, uint64_t key, uint64_t value)
+{
+    return moss_int_map_insert(MOSS_LENT_INT_MAP(t), key, value);
+}
+
+static inline moss_answer moss_im_remove(const moss_int_map *t, uint64_t key)
+{
+    return moss_int_map_remove(MOSS_LENT_INT_MAP(t), key);
+}
+
+static inline moss_answer moss_im_entry(const moss_int_map *t, uint64_t key)
+{
+    return moss_int_map_entry(MOSS_LENT_INT_MAP(t), key);
+}
+
+static inline moss_answer moss_im_occupied_get(const moss_int_map *t, uint64_t slot, uint64_t key)
+{
+    return moss_int_map_occupied_get(MOSS_LENT_INT_MAP(t), slot, key);
+}
+
+static inline moss_answer moss_im_occupied_set(const moss_int_map *t, uint64_t slot, uint64_t key, uint64_t value)
+{
+    return moss_int_map_occupied_set(MOSS_LENT_INT_MAP(t), slot, key, value);
+}
+
+static inline moss_answer moss_im_occupied_remove(const moss_int_map *t, uint64_t slot, uint64_t key)
+{
+    return moss_int_map_occupied_remove(MOSS_LENT_INT_MAP(t), slot, key);
+}
+
+static inline moss_answer moss_im_occupied_remove_entry(const moss_int_map *t, uint64_t slot, uint64_t key)
+{
+    return moss_int_map_occupied_remove_entry(MOSS_LENT_INT_MAP(t), slot, key);
+}
+
+static inline moss_answer moss_im_vacant_insert(const moss_int_map *t, uint64_t slot, uint64_t key, uint64_t value)
+{
+    return moss_int_map_vacant_insert(MOSS_LENT_INT_MAP(t), slot, key, value);
+}
+
+static inline moss_answer moss_im_or_insert(const moss_int_map *t, uint64_t which, uint64_t slot, uint64_t key, uint64_t value)
+{
+    return moss_int_map_or_insert(MOSS_LENT_INT_MAP(t), which, slot, key, value);
+}
+
+static inline moss_answer moss_im_insert_entry(const moss_int_map *t, uint64_t which, uint64_t slot, uint64_t key, uint64_t value)
+{
+    return moss_int_map_insert_entry(MOSS_LENT_INT_MAP(t), which, slot, key, value);
+}
+
+static inline moss_answer moss_im_step(const moss_int_map *t, uint64_t walk, uint64_t budget)
+{
+    return moss_int_map_step(MOSS_LENT_INT_MAP(t), walk, budget);
+}
+
+static inline moss_answer moss_im_copy(const moss_int_map *t, const moss_int_map *from)
+{
+    return moss_int_map_copy(MOSS_LENT_INT_MAP(t), MOSS_LENT_INT_MAP(from));
+}
+
+static inline moss_answer moss_im_union_prefer_right(const moss_int_map *t, const moss_int_map *right)
+{
+    return moss_int_map_union_prefer_right(MOSS_LENT_INT_MAP(t), MOSS_LENT_INT_MAP(right));
+}
+
+/* The calls of an integer set's struct. */
+
+static inline moss_answer moss_is_make(const moss_int_set *t)
+{
+    return moss_int_set_make(MOSS_LENT_INT_SET(t));
+}
+
+static inline moss_answer moss_is_clear(const moss_int_set *t)
+{
+    return moss_int_set_clear(MOSS_LENT_INT_SET(t));
+}
+
+static inline moss_answer moss_is_capacity(const moss_int_set *t)
+{
+    return moss_int_set_capacity(MOSS_LENT_INT_SET(t));
+}
+
+static inline moss_answer moss_is_len(const moss_int_set *t)
+{
+    return moss_int_set_len(MOSS_LENT_INT_SET(t));
+}
+
+static inline moss_answer moss_is_is_empty(const moss_int_set *t)
+{
+    return moss_int_set_is_empty(MOSS_LENT_INT_SET(t));
+}
+
+static inline moss_answer moss_is_reserve(const moss_int_set *t, uint64_t asked)
+{
+    return moss_int_set_reserve(MOSS_LENT_INT_SET(t), asked);
+}
+
+static inline moss_answer moss_is_get(const moss_int_set *t, uint64_t key)
+{
+    return moss_int_set_get(MOSS_LENT_INT_SET(t), key);
+}
+
+static inline moss_answer moss_is_contains(const moss_int_set *t, uint64_t key)
+{
+    return moss_int_set_contains(MOSS_LENT_INT_SET(t), key);
+}
+
+static inline moss_answer moss_is_insert(const moss_int_set *t, uint64_t key)
+{
+    return moss_int_set_insert(MOSS_LENT_INT_SET(t), key);
+}
+
+static inline moss_answer moss_is_remove(const moss_int_set *t, uint64_t key)
+{
+    return moss_int_set_remove(MOSS_LENT_INT_SET(t), key);
+}
+
+static inline moss_answer moss_is_step(const moss_int_set *t, uint64_t walk, uint64_t budget)
+{
+    return moss_int_set_step(MOSS_LENT_INT_SET(t), walk, budget);
+}
+
+static inline moss_answer moss_is_copy(const moss_int_set *t, const moss_int_set *from)
+{
+    return moss_int_set_copy(MOSS_LENT_INT_SET(t), MOSS_LENT_INT_SET(from));
+}
+
+/* The calls of a byte map's struct. */
+
+static inline moss_answer moss_bm_make(const moss_byte_map *t)
+{
+    return moss_byte_map_make(MOSS_LENT_BYTE_MAP(t));
+}
+
+static inline moss_answer moss_bm_clear(const moss_byte_map *t)
+{
+    return moss_byte_map_clear(MOSS_LENT_BYTE_MAP(t));
+}
+
+static inline moss_answer moss_bm_capacity(const moss_byte_map *t)
+{
+    return moss_byte_map_capacity(MOSS_LENT_BYTE_MAP(t));
+}
+
+static inline moss_answer moss_bm_len(const moss_byte_map *t)
+{
+    return moss_byte_map_len(MOSS_LENT_BYTE_MAP(t));
+}
+
+static inline moss_answer moss_bm_is_empty(const moss_byte_map *t)
+{
+    return moss_byte_map_is_empty(MOSS_LENT_BYTE_MAP(t));
+}
+
+static inline moss_answer moss_bm_reserve(const moss_byte_map *t, uint64_t asked)
+{
+    return moss_byte_map_reserve(MOSS_LENT_BYTE_MAP(t), asked);
+}
+
+static inline moss_answer moss_bm_get(const moss_byte_map *t, const uint8_t *key, size_t key_length)
+{
+    return moss_byte_map_get(MOSS_LENT_BYTE_MAP(t), key, key_length);
+}
+
+static inline moss_answer moss_bm_contains_key(const moss_byte_map *t, const uint8_t *key, size_t key_length)
+{
+    return moss_byte_map_contains_key(MOSS_LENT_BYTE_MAP(t), key, key_length);
+}
+
+static inline moss_answer moss_bm_insert(const moss_byte_map *t, const uint8_t *key, size_t key_length, uint64_t value)
+{
+    return moss_byte_map_insert(MOSS_LENT_BYTE_MAP(t), key, key_length, value);
+}
+
+static inline moss_answer moss_bm_remove(const moss_byte_map *t, const uint8_t *key, size_t key_length)
+{
+    return moss_byte_map_remove(MOSS_LENT_BYTE_MAP(t), key, key_length);
+}
+
+static inline moss_answer moss_bm_entry(const moss_byte_map *t, const uint8_t *key, size_t key_length)
+{
+    return moss_byte_map_entry(MOSS_LENT_BYTE_MAP(t), key, key_length);
+}
+
+static inline moss_answer moss_bm_occupied_get(const moss_byte_map *t, uint64_t slot, const uint8_t *key, size_t key_length)
+{
+    return moss_byte_map_occupied_get(MOSS_LENT_BYTE_MAP(t), slot, key, key_length);
+}
+
+static inline moss_answer moss_bm_occupied_set(const moss_byte_map *t, uint64_t slot, const uint8_t *key, size_t key_length, uint64_t value)
+{
+    return moss_byte_map_occupied_set(MOSS_LENT_BYTE_MAP(t), slot, key, key_length, value);
+}
+
+static inline moss_answer moss_bm_occupied_remove(const moss_byte_map *t, uint64_t slot, const uint8_t *key, size_t key_length)
+{
+    return moss_byte_map_occupied_remove(MOSS_LENT_BYTE_MAP(t), slot, key, key_length);
+}
+
+static inline moss_answer moss_bm_occupied_remove_entry(const moss_byte_map *t, uint64_t slot, const uint8_t *key, size_t key_length)
+{
+    return moss_byte_map_occupied_remove_entry(MOSS_LENT_BYTE_MAP(t), slot, key, key_length);
+}
+
+static inline moss_answer moss_bm_vacant_insert(const moss_byte_map *t, uint64_t slot, const uint8_t *key, size_t key_length, uint64_t value)
+{
+    return moss_byte_map_vacant_insert(MOSS_LENT_BYTE_MAP(t), slot, key, key_length, value);
+}
+
+static inline moss_answer moss_bm_or_insert(const moss_byte_map *t, uint64_t which, uint64_t slot, const uint8_t *key, size_t key_length, uint64_t value)
+{
+    return moss_byte_map_or_insert(MOSS_LENT_BYTE_MAP(t), which, slot, key, key_length, value);
+}
+
+static inline moss_answer moss_bm_insert_entry(const moss_byte_map *t, uint64_t which, uint64_t slot, const uint8_t *key, size_t key_length, uint64_t value)
+{
+    return moss_byte_map_insert_entry(MOSS_LENT_BYTE_MAP(t), which, slot, key, key_length, value);
+}
+
+static inline moss_answer moss_bm_step(const moss_byte_map *t, uint64_t walk, uint64_t budget)
+{
+    return moss_byte_map_step(MOSS_LENT_BYTE_MAP(t), walk, budget);
+}
+
+static inline moss_answer moss_bm_copy(const moss_byte_map *t, const moss_byte_map *from)
+{
+    return moss_byte_map_copy(MOSS_LENT_BYTE_MAP(t), MOSS_LENT_BYTE_MAP(from));
+}
+
+static inline moss_answer moss_bm_union_prefer_right(const moss_byte_map *t, const moss_byte_map *right)
+{
+    return moss_byte_map_union_prefer_right(MOSS_LENT_BYTE_MAP(t), MOSS_LENT_BYTE_MAP(right));
+}
+
+/* The calls of a byte set's struct. */
+
+static inline moss_answer moss_bs_make(const moss_byte_set *t)
+{
+    return moss_byte_set_make(MOSS_LENT_BYTE_SET(t));
+}
+
+static inline moss_answer moss_bs_clear(const moss_byte_set *t)
+{
+    return moss_byte_set_clear(MOSS_LENT_BYTE_SET(t));
+}
+
+static inline moss_answer moss_bs_capacity(const moss_byte_set *t)
+{
+    return moss_byte_set_capacity(MOSS_LENT_BYTE_SET(t));
+}
+
+static inline moss_answer moss_bs_len(const moss_byte_set *t)
+{
+    return moss_byte_set_len(MOSS_LENT_BYTE_SET(t));
+}
+
+static inline moss_answer moss_bs_is_empty(const moss_byte_set *t)
+{
+    return moss_byte_set_is_empty(MOSS_LENT_BYTE_SET(t));
+}
+
+static inline moss_answer moss_bs_reserve(const moss_byte_set *t, uint64_t asked)
+{
+    return moss_byte_set_reserve(MOSS_LENT_BYTE_SET(t), asked);
+}
+
+static inline moss_answer moss_bs_get(const moss_byte_set *t, const uint8_t *key, size_t key_length)
+{
+    return moss_byte_set_get(MOSS_LENT_BYTE_SET(t), key, key_length);
+}
+
+static inline moss_answer moss_bs_contains(const moss_byte_set *t, const uint8_t *key, size_t key_length)
+{
+    return moss_byte_set_contains(MOSS_LENT_BYTE_SET(t), key, key_length);
+}
+
+static inline moss_answer moss_bs_insert(const moss_byte_set *t, const uint8_t *key, size_t key_length)
+{
+    return moss_byte_set_insert(MOSS_LENT_BYTE_SET(t), key, key_length);
+}
+
+static inline moss_answer moss_bs_remove(const moss_byte_set *t, const uint8_t *key, size_t key_length)
+{
+    return moss_byte_set_remove(MOSS_LENT_BYTE_SET(t), key, key_length);
+}
+
+static inline moss_answer moss_bs_step(const moss_byte_set *t, uint64_t walk, uint64_t budget)
+{
+    return moss_byte_set_step(MOSS_LENT_BYTE_SET(t), walk, budget);
+}
+
+static inline moss_answer moss_bs_copy(const moss_byte_set *t, const moss_byte_set *from)
+{
+    return moss_byte_set_copy(MOSS_LENT_BYTE_SET(t), MOSS_LENT_BYTE_SET(from));
+}
+
 #ifdef __cplusplus
 }
 #endif

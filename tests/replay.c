@@ -4,7 +4,7 @@
  * ignored. Every lent array ends at a page that may not be touched, and the bytes before it are looked at after each call.
  * Status 2: the file is malformed. Status 3: an answer has a number that its case does not have, or memory beside an array changed. */
 #define _DEFAULT_SOURCE
-#include "mosspillow.h"
+#include "kinds.h"
 
 #include <inttypes.h>
 #include <stdarg.h>
@@ -15,61 +15,9 @@
 #include <sys/mman.h>
 #include <unistd.h>
 
-enum { MOST_COLUMNS = 5, MALFORMED = 2, WRONG = 3, MARGIN = 0xA5 };
+enum { MALFORMED = 2, WRONG = 3, MARGIN = 0xA5 };
 
-/* ---- What there is to play ---- */
-
-/* A column of a table: its name, the bytes of an element in memory and in the digest. */
-struct column {
-    const char *name;
-    size_t width;
-    size_t told;
-};
-
-/* A lent array: `count` elements that end where a guard page starts, the filled bytes before them, and what it held before the call. */
-struct array {
-    size_t count;
-    uint8_t *pages;
-    size_t mapped;
-    size_t margin;
-    uint8_t *data;
-    uint8_t *before;
-};
-
-struct table {
-    struct array columns[MOST_COLUMNS];
-};
-
-/* The arguments of a call. */
-struct order {
-    struct table *table;
-    struct table *other;
-    uint64_t key;
-    uint64_t value;
-    uint64_t which;
-    uint64_t slot;
-    uint64_t asked;
-    uint64_t walk;
-    uint64_t budget;
-};
-
-typedef moss_answer function(const struct order *order);
-
-enum call {
-    MAKE, CLEAR, LEN, IS_EMPTY, CAPACITY, RESERVE, GET, CONTAINS, REMOVE, INSERT, ENTRY, OCCUPIED_GET, OCCUPIED_REMOVE, OCCUPIED_SET,
-    VACANT_INSERT, OR_INSERT, INSERT_ENTRY, STEP, UNION, COPY, CALLS
-};
-
-/* A kind of table: its columns, whether it has values, its functions by call, and the test of what get does not print. */
-struct kind {
-    const char *name;
-    size_t columns;
-    struct column column[MOST_COLUMNS];
-    bool values;
-    function *functions[CALLS];
-    function *remove_entry;
-    void (*found)(const struct order *order, const moss_answer *answer);
-};
+/* ---- The calls as text ---- */
 
 /* The words of each call after its name: k a key, v a value, s a slot, h occupied or vacant, a slots asked, w a walk, b a budget,
  * o the other table, 0 a number that has to be 0, - a number that does not matter. */
@@ -100,41 +48,40 @@ static const struct {
 };
 
 /* The answers of each call: their case, and their text, where k, v, s, x and w stand for key, value, slot, examined and walk after a
- * `%`. A number that is not printed is 0, but for those of `also`, which are tested by themselves. */
+ * `%`. A number that is not printed is 0, but for those that test_found and test_fresh look at. */
 static const struct {
     enum call call;
     uint64_t which;
     const char *text;
-    const char *also;
 } answers[] = {
-    {MAKE, MOSS_DONE, "done", ""},
-    {CLEAR, MOSS_DONE, "done", ""},
-    {COPY, MOSS_DONE, "done", ""},
-    {UNION, MOSS_DONE, "done", ""},
-    {LEN, MOSS_COUNT, "length %v", ""},
-    {CAPACITY, MOSS_COUNT, "capacity %v", ""},
-    {IS_EMPTY, MOSS_EMPTY, "empty yes", ""},
-    {IS_EMPTY, MOSS_HOLDS, "empty no", ""},
-    {RESERVE, MOSS_ROOM, "room", ""},
-    {GET, MOSS_FOUND, "found value=%v examined=%x", "ks"},
-    {GET, MOSS_ABSENT, "absent examined=%x", ""},
-    {CONTAINS, MOSS_PRESENT, "present examined=%x", ""},
-    {CONTAINS, MOSS_ABSENT, "absent examined=%x", ""},
-    {REMOVE, MOSS_REMOVED, "removed value=%v slot=%s examined=%x", ""},
-    {REMOVE, MOSS_ABSENT, "absent examined=%x", ""},
-    {INSERT, MOSS_FRESH, "fresh slot=%s examined=%x", ""},
-    {INSERT, MOSS_REPLACED, "replaced old=%v slot=%s examined=%x", ""},
-    {ENTRY, MOSS_OCCUPIED, "occupied slot=%s value=%v examined=%x", ""},
-    {ENTRY, MOSS_VACANT, "vacant slot=%s examined=%x", ""},
-    {OCCUPIED_GET, MOSS_VALUE, "handle_value slot=%s value=%v", ""},
-    {OCCUPIED_SET, MOSS_WAS, "handle_set slot=%s old=%v", ""},
-    {OCCUPIED_REMOVE, MOSS_REMOVED, "handle_removed value=%v", ""},
-    {VACANT_INSERT, MOSS_NOW, "handle_now slot=%s value=%v", ""},
-    {OR_INSERT, MOSS_NOW, "handle_now slot=%s value=%v", ""},
-    {INSERT_ENTRY, MOSS_NOW, "handle_now slot=%s value=%v", ""},
-    {STEP, MOSS_PAIR, "pair key=%k value=%v walk=%w turn=0 examined=%x", ""},
-    {STEP, MOSS_NOTHING, "nothing walk=%w turn=0 examined=%x", ""},
-    {STEP, MOSS_WALK_DONE, "walk_done walk=%w turn=0", ""},
+    {MAKE, MOSS_DONE, "done"},
+    {CLEAR, MOSS_DONE, "done"},
+    {COPY, MOSS_DONE, "done"},
+    {UNION, MOSS_DONE, "done"},
+    {LEN, MOSS_COUNT, "length %v"},
+    {CAPACITY, MOSS_COUNT, "capacity %v"},
+    {IS_EMPTY, MOSS_EMPTY, "empty yes"},
+    {IS_EMPTY, MOSS_HOLDS, "empty no"},
+    {RESERVE, MOSS_ROOM, "room"},
+    {GET, MOSS_FOUND, "found value=%v examined=%x"},
+    {GET, MOSS_ABSENT, "absent examined=%x"},
+    {CONTAINS, MOSS_PRESENT, "present examined=%x"},
+    {CONTAINS, MOSS_ABSENT, "absent examined=%x"},
+    {REMOVE, MOSS_REMOVED, "removed value=%v slot=%s examined=%x"},
+    {REMOVE, MOSS_ABSENT, "absent examined=%x"},
+    {INSERT, MOSS_FRESH, "fresh slot=%s examined=%x"},
+    {INSERT, MOSS_REPLACED, "replaced old=%v slot=%s examined=%x"},
+    {ENTRY, MOSS_OCCUPIED, "occupied slot=%s value=%v examined=%x"},
+    {ENTRY, MOSS_VACANT, "vacant slot=%s examined=%x"},
+    {OCCUPIED_GET, MOSS_VALUE, "handle_value slot=%s value=%v"},
+    {OCCUPIED_SET, MOSS_WAS, "handle_set slot=%s old=%v"},
+    {OCCUPIED_REMOVE, MOSS_REMOVED, "handle_removed value=%v"},
+    {VACANT_INSERT, MOSS_NOW, "handle_now slot=%s value=%v"},
+    {OR_INSERT, MOSS_NOW, "handle_now slot=%s value=%v"},
+    {INSERT_ENTRY, MOSS_NOW, "handle_now slot=%s value=%v"},
+    {STEP, MOSS_PAIR, "pair key=%k value=%v walk=%w turn=0 examined=%x"},
+    {STEP, MOSS_NOTHING, "nothing walk=%w turn=0 examined=%x"},
+    {STEP, MOSS_WALK_DONE, "walk_done walk=%w turn=0"},
 };
 
 static unsigned long line_number = 0;
@@ -167,20 +114,30 @@ static struct array lend(size_t count, size_t width)
     return a;
 }
 
+static void take_back_array(struct array *a)
+{
+    if (a->pages != NULL)
+        munmap(a->pages, a->mapped);
+    free(a->before);
+}
+
 static void take_back(const struct kind *kind, struct table *t)
 {
-    for (size_t c = 0; c < kind->columns; c++) {
-        munmap(t->columns[c].pages, t->columns[c].mapped);
-        free(t->columns[c].before);
-    }
+    for (size_t c = 0; c < kind->columns; c++)
+        take_back_array(&t->columns[c]);
+}
+
+static void test_margin(const struct array *a, const char *name)
+{
+    for (size_t i = 0; i < a->margin; i++)
+        if (a->pages[i] != MARGIN)
+            stop(WRONG, "memory before %s", name);
 }
 
 static void test_margins(const struct kind *kind, const struct table *t)
 {
     for (size_t c = 0; c < kind->columns; c++)
-        for (size_t i = 0; i < t->columns[c].margin; i++)
-            if (t->columns[c].pages[i] != MARGIN)
-                stop(WRONG, "memory before %s", kind->column[c].name);
+        test_margin(&t->columns[c], kind->column[c].name);
 }
 
 static uint64_t element(const struct array *a, size_t width, size_t i)
@@ -222,84 +179,49 @@ static void remember(const struct kind *kind, struct table *t)
             memcpy(t->columns[c].before, t->columns[c].data, t->columns[c].count * kind->column[c].width);
 }
 
-/* ---- The kinds ---- */
+/* ---- Keys in slots ---- */
 
-#define MARKS(t) (t)->columns[0].data, (t)->columns[0].count
-#define WORDS(t, c) (uint64_t *)(void *)(t)->columns[c].data, (t)->columns[c].count
-#define INT_MAP(t) MARKS(t), WORDS(t, 1), WORDS(t, 2)
-#define INT_SET(t) MARKS(t), WORDS(t, 1)
-
-static moss_answer map_make(const struct order *o) { return moss_int_map_make(INT_MAP(o->table)); }
-static moss_answer map_clear(const struct order *o) { return moss_int_map_clear(INT_MAP(o->table)); }
-static moss_answer map_len(const struct order *o) { return moss_int_map_len(INT_MAP(o->table)); }
-static moss_answer map_is_empty(const struct order *o) { return moss_int_map_is_empty(INT_MAP(o->table)); }
-static moss_answer map_capacity(const struct order *o) { return moss_int_map_capacity(INT_MAP(o->table)); }
-static moss_answer map_reserve(const struct order *o) { return moss_int_map_reserve(INT_MAP(o->table), o->asked); }
-static moss_answer map_get(const struct order *o) { return moss_int_map_get(INT_MAP(o->table), o->key); }
-static moss_answer map_contains(const struct order *o) { return moss_int_map_contains_key(INT_MAP(o->table), o->key); }
-static moss_answer map_remove(const struct order *o) { return moss_int_map_remove(INT_MAP(o->table), o->key); }
-static moss_answer map_insert(const struct order *o) { return moss_int_map_insert(INT_MAP(o->table), o->key, o->value); }
-static moss_answer map_entry(const struct order *o) { return moss_int_map_entry(INT_MAP(o->table), o->key); }
-static moss_answer map_occupied_get(const struct order *o) { return moss_int_map_occupied_get(INT_MAP(o->table), o->slot, o->key); }
-static moss_answer map_occupied_remove(const struct order *o) { return moss_int_map_occupied_remove(INT_MAP(o->table), o->slot, o->key); }
-static moss_answer map_remove_entry(const struct order *o) { return moss_int_map_occupied_remove_entry(INT_MAP(o->table), o->slot, o->key); }
-static moss_answer map_occupied_set(const struct order *o) { return moss_int_map_occupied_set(INT_MAP(o->table), o->slot, o->key, o->value); }
-static moss_answer map_vacant_insert(const struct order *o) { return moss_int_map_vacant_insert(INT_MAP(o->table), o->slot, o->key, o->value); }
-static moss_answer map_or_insert(const struct order *o) { return moss_int_map_or_insert(INT_MAP(o->table), o->which, o->slot, o->key, o->value); }
-static moss_answer map_insert_entry(const struct order *o) { return moss_int_map_insert_entry(INT_MAP(o->table), o->which, o->slot, o->key, o->value); }
-static moss_answer map_step(const struct order *o) { return moss_int_map_step(INT_MAP(o->table), o->walk, o->budget); }
-static moss_answer map_union(const struct order *o) { return moss_int_map_union_prefer_right(INT_MAP(o->table), INT_MAP(o->other)); }
-static moss_answer map_copy(const struct order *o) { return moss_int_map_copy(INT_MAP(o->table), INT_MAP(o->other)); }
-
-static moss_answer set_make(const struct order *o) { return moss_int_set_make(INT_SET(o->table)); }
-static moss_answer set_clear(const struct order *o) { return moss_int_set_clear(INT_SET(o->table)); }
-static moss_answer set_len(const struct order *o) { return moss_int_set_len(INT_SET(o->table)); }
-static moss_answer set_is_empty(const struct order *o) { return moss_int_set_is_empty(INT_SET(o->table)); }
-static moss_answer set_capacity(const struct order *o) { return moss_int_set_capacity(INT_SET(o->table)); }
-static moss_answer set_reserve(const struct order *o) { return moss_int_set_reserve(INT_SET(o->table), o->asked); }
-static moss_answer set_get(const struct order *o) { return moss_int_set_get(INT_SET(o->table), o->key); }
-static moss_answer set_contains(const struct order *o) { return moss_int_set_contains(INT_SET(o->table), o->key); }
-static moss_answer set_remove(const struct order *o) { return moss_int_set_remove(INT_SET(o->table), o->key); }
-static moss_answer set_insert(const struct order *o) { return moss_int_set_insert(INT_SET(o->table), o->key); }
-static moss_answer set_step(const struct order *o) { return moss_int_set_step(INT_SET(o->table), o->walk, o->budget); }
-static moss_answer set_copy(const struct order *o) { return moss_int_set_copy(INT_SET(o->table), INT_SET(o->other)); }
-
-/* The slot that an integer table's get answers is live and holds the key. */
-static void holds_key(const struct order *o, const moss_answer *answer)
+/* Whether a slot's span is the bytes of the key. */
+static bool holds_bytes(const struct kind *kind, const struct order *o, uint64_t slot)
 {
-    const struct array *marks = &o->table->columns[0], *keys = &o->table->columns[1];
-    if (answer->slot >= keys->count || element(marks, 1, answer->slot) != 1 || element(keys, 8, answer->slot) != o->key)
+    const struct array *arena = &o->table->columns[kind->columns - 1];
+    uint64_t offset = element(&o->table->columns[1], 2, slot), length = element(&o->table->columns[2], 1, slot);
+    return length == o->bytes.count && offset + length <= arena->count
+        && (length == 0 || memcmp(arena->data + offset, o->bytes.data, length) == 0);
+}
+
+/* Whether a slot is live and holds the key. */
+static bool holds_key(const struct kind *kind, const struct order *o, uint64_t slot)
+{
+    const struct table *t = o->table;
+    if (slot >= t->columns[0].count || element(&t->columns[0], 1, slot) != 1)
+        return false;
+    return kind->bytes ? holds_bytes(kind, o, slot) : element(&t->columns[1], 8, slot) == o->key;
+}
+
+/* The offset and length that an answer tells are those of its slot. */
+static bool tells_span(const struct order *o, const moss_answer *a)
+{
+    return a->offset == element(&o->table->columns[1], 2, a->slot) && a->length == element(&o->table->columns[2], 1, a->slot);
+}
+
+/* What get does not print: its slot holds the key, and a set's answer tells that key. */
+static void test_found(const struct kind *kind, const struct order *o, const moss_answer *a)
+{
+    if (!holds_key(kind, o, a->slot))
         stop(WRONG, "slot");
+    if (!kind->values && !(kind->bytes ? tells_span(o, a) : a->key == o->key))
+        stop(WRONG, kind->bytes ? "offset or length" : "key");
 }
 
-static void int_map_found(const struct order *o, const moss_answer *answer)
+/* What a fresh insert does not print: the offset is that of its slot, which holds the key. */
+static void test_fresh(const struct kind *kind, const struct order *o, const moss_answer *a)
 {
-    holds_key(o, answer);
-    if (answer->key != 0)
-        stop(WRONG, "key");
+    if (!holds_key(kind, o, a->slot))
+        stop(WRONG, "slot");
+    if (kind->bytes && a->offset != element(&o->table->columns[1], 2, a->slot))
+        stop(WRONG, "offset");
 }
-
-static void int_set_found(const struct order *o, const moss_answer *answer)
-{
-    holds_key(o, answer);
-    if (answer->key != o->key)
-        stop(WRONG, "key");
-}
-
-static const struct kind kinds[] = {
-    {"intmap", 3, {{"marks", 1, 1}, {"keys", 8, 8}, {"values", 8, 8}}, true,
-        {[MAKE] = map_make, [CLEAR] = map_clear, [LEN] = map_len, [IS_EMPTY] = map_is_empty, [CAPACITY] = map_capacity,
-            [RESERVE] = map_reserve, [GET] = map_get, [CONTAINS] = map_contains, [REMOVE] = map_remove, [INSERT] = map_insert,
-            [ENTRY] = map_entry, [OCCUPIED_GET] = map_occupied_get, [OCCUPIED_REMOVE] = map_occupied_remove,
-            [OCCUPIED_SET] = map_occupied_set, [VACANT_INSERT] = map_vacant_insert, [OR_INSERT] = map_or_insert,
-            [INSERT_ENTRY] = map_insert_entry, [STEP] = map_step, [UNION] = map_union, [COPY] = map_copy},
-        map_remove_entry, int_map_found},
-    {"intset", 2, {{"marks", 1, 1}, {"keys", 8, 8}}, false,
-        {[MAKE] = set_make, [CLEAR] = set_clear, [LEN] = set_len, [IS_EMPTY] = set_is_empty, [CAPACITY] = set_capacity,
-            [RESERVE] = set_reserve, [GET] = set_get, [CONTAINS] = set_contains, [REMOVE] = set_remove, [INSERT] = set_insert,
-            [STEP] = set_step, [COPY] = set_copy},
-        NULL, int_set_found},
-};
 
 /* ---- Answers ---- */
 
@@ -317,6 +239,14 @@ static void print_value(const struct kind *kind, const moss_answer *a)
         putchar('-');
 }
 
+static void print_key(const struct kind *kind, const moss_answer *a)
+{
+    if (kind->bytes)
+        printf("%" PRIu64 "+%" PRIu64, a->offset, a->length);
+    else
+        printf("%" PRIu64, a->key);
+}
+
 /* Prints a text with the numbers that it names. */
 static void print_text(const struct kind *kind, const char *text, const moss_answer *a)
 {
@@ -326,7 +256,7 @@ static void print_text(const struct kind *kind, const char *text, const moss_ans
             continue;
         }
         switch (*++text) {
-        case 'k': printf("%" PRIu64, a->key); break;
+        case 'k': print_key(kind, a); break;
         case 'v': print_value(kind, a); break;
         case 's': printf("%" PRIu64, a->slot); break;
         case 'x': printf("%" PRIu64, a->examined); break;
@@ -369,16 +299,20 @@ static void print_case(const struct kind *kind, const struct order *o, enum call
         row++;
     if (row == rows)
         stop(WRONG, "which");
-    const char *text = answers[row].text, *also = answers[row].also;
-    zero(told(text, 'k') || strchr(also, 'k'), a->key, "key");
+    const char *text = answers[row].text;
+    bool found = call == GET && a->which == MOSS_FOUND, fresh = call == INSERT && a->which == MOSS_FRESH;
+    bool key = told(text, 'k') || (found && !kind->values);
+    zero(key && !kind->bytes, a->key, "key");
     zero(told(text, 'v') && has_value(kind, a), a->value, "value");
-    zero(told(text, 's') || strchr(also, 's'), a->slot, "slot");
+    zero(told(text, 's') || found, a->slot, "slot");
     zero(told(text, 'x'), a->examined, "examined");
     zero(told(text, 'w'), a->walk, "walk");
-    zero(false, a->offset, "offset");
-    zero(false, a->length, "length");
-    if (call == GET && a->which == MOSS_FOUND)
-        kind->found(o, a);
+    zero((key || fresh) && kind->bytes, a->offset, "offset");
+    zero(key && kind->bytes, a->length, "length");
+    if (found)
+        test_found(kind, o, a);
+    if (fresh)
+        test_fresh(kind, o, a);
     print_text(kind, text, a);
 }
 
@@ -559,11 +493,39 @@ static struct table read_table(const struct kind *kind, const char *head)
     return t;
 }
 
+/* A hexadecimal digit. */
+static uint8_t digit_of(char c, const char *word)
+{
+    const char *digits = "0123456789abcdef", *at = c == '\0' ? NULL : strchr(digits, c);
+    if (at == NULL)
+        stop(MALFORMED, "malformed bytes %s", word);
+    return (uint8_t)(at - digits);
+}
+
+/* Bytes: x and two hexadecimal digits a byte. */
+static struct array bytes_of(const char *word)
+{
+    if (word == NULL || word[0] != 'x' || strlen(word) % 2 == 0)
+        stop(MALFORMED, "expected bytes");
+    struct array a = lend(strlen(word) / 2, 1);
+    for (size_t i = 0; i < a.count; i++)
+        a.data[i] = (uint8_t)(digit_of(word[2 * i + 1], word) << 4 | digit_of(word[2 * i + 2], word));
+    return a;
+}
+
+static void read_key(const struct kind *kind, struct order *o, const char *word)
+{
+    if (kind->bytes)
+        o->bytes = bytes_of(word);
+    else
+        o->key = number_of(word, UINT64_MAX);
+}
+
 /* A call's word by its letter. */
 static void read_word(const struct kind *kind, struct order *o, char letter, const char *word, const char *other)
 {
     switch (letter) {
-    case 'k': o->key = number_of(word, UINT64_MAX); return;
+    case 'k': read_key(kind, o, word); return;
     case 'v':
         if (kind->values)
             o->value = number_of(word, UINT64_MAX);
@@ -627,7 +589,7 @@ static void compare(const struct kind *kind, const struct order *o, function *ca
             stop(WRONG, "the memory of %s", name);
 }
 
-/* Beside a removal by handle: remove_entry answers the same, with the key, and leaves the same memory. */
+/* Beside a removal by handle: remove_entry answers the same, with the key where it is a word, and leaves the same memory. */
 static void compare_remove_entry(const struct kind *kind, const struct order *o, struct table *copy, const moss_answer *a)
 {
     moss_answer due = *a;
@@ -664,6 +626,7 @@ static void play(const struct kind *kind, struct table tables[2], bool memory)
     moss_answer a = kind->functions[call](&o);
     for (int t = 0; t < 2; t++)
         test_margins(kind, &tables[t]);
+    test_margin(&o.bytes, "the key");
     if (call == OCCUPIED_REMOVE)
         compare_remove_entry(kind, &o, &copy, &a);
     if (call == OR_INSERT || call == INSERT_ENTRY)
@@ -675,6 +638,7 @@ static void play(const struct kind *kind, struct table tables[2], bool memory)
     else
         print_case(kind, &o, call, &a);
     putchar('\n');
+    take_back_array(&o.bytes);
     if (!memory)
         printf("digest %016" PRIx64 "\n", digest_table(digest_table(UINT64_C(0xcbf29ce484222325), kind, &tables[0]), kind, &tables[1]));
     else

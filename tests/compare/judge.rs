@@ -1,0 +1,265 @@
+//! The finite map or set that a table made and changed by its own calls has to be: std's HashMap and HashSet, and the promise of the walk.
+
+use crate::rules::{Answer, Call, Key, Table};
+use std::collections::{HashMap, HashSet};
+
+#[derive(Clone, PartialEq, Debug)]
+pub enum Finite {
+    Map(HashMap<Key, u64>),
+    Set(HashSet<Key>),
+}
+
+impl Finite {
+    fn empty(values: bool) -> Finite {
+        if values {
+            Finite::Map(HashMap::new())
+        } else {
+            Finite::Set(HashSet::new())
+        }
+    }
+
+    /// A key's value, 0 in sets.
+    fn get(&self, key: &Key) -> Option<u64> {
+        match self {
+            Finite::Map(map) => map.get(key).copied(),
+            Finite::Set(set) => set.get(key).map(|_| 0),
+        }
+    }
+
+    /// Puts a key in; the value it had.
+    fn insert(&mut self, key: &Key, value: u64) -> Option<u64> {
+        match self {
+            Finite::Map(map) => map.insert(key.clone(), value),
+            Finite::Set(set) => set.replace(key.clone()).map(|_| 0),
+        }
+    }
+
+    fn remove(&mut self, key: &Key) -> Option<u64> {
+        match self {
+            Finite::Map(map) => map.remove(key),
+            Finite::Set(set) => set.take(key).map(|_| 0),
+        }
+    }
+
+    fn keys(&self) -> Vec<Key> {
+        match self {
+            Finite::Map(map) => map.keys().cloned().collect(),
+            Finite::Set(set) => set.iter().cloned().collect(),
+        }
+    }
+
+    fn len(&self) -> usize {
+        match self {
+            Finite::Map(map) => map.len(),
+            Finite::Set(set) => set.len(),
+        }
+    }
+
+    /// The live slots of a table, decoded.
+    fn of(t: &Table) -> Finite {
+        let mut finite = Finite::empty(t.kind.values);
+        for i in t.live() {
+            finite.insert(&t.key_at(i), t.value_at(i));
+        }
+        finite
+    }
+}
+
+/// A walk from slot 0: where it stands, its unrefused steps, the keys there since its start, and the keys handed out and not removed since.
+struct Walk {
+    at: u64,
+    steps: u64,
+    staying: HashSet<Key>,
+    handed: HashSet<Key>,
+}
+
+/// What is known of a table: its finite map, where it was made and changed by its own calls, and its walks.
+#[derive(Default)]
+pub struct Judge {
+    finite: Option<Finite>,
+    walks: Vec<Walk>,
+}
+
+type Verdict = Result<(), String>;
+
+fn hold(fact: bool, words: &str) -> Verdict {
+    if fact {
+        Ok(())
+    } else {
+        Err(words.to_string())
+    }
+}
+
+impl Judge {
+    /// A table that was made and changed by its own calls.
+    pub fn of_reachable(t: &Table) -> Judge {
+        Judge { finite: Some(Finite::of(t)), walks: Vec::new() }
+    }
+
+    /// Starts a walk; its number.
+    pub fn start_walk(&mut self) -> Option<usize> {
+        let staying = self.finite.as_ref()?.keys().into_iter().collect();
+        self.walks.push(Walk { at: 0, steps: 0, staying, handed: HashSet::new() });
+        Some(self.walks.len() - 1)
+    }
+
+    /// The walks that have not ended: their numbers and where they stand.
+    pub fn walks(&self) -> Vec<(usize, u64)> {
+        self.walks.iter().map(|walk| walk.at).enumerate().collect()
+    }
+
+    /// What a call on a reachable table has to be refused with, as far as the finite map decides it.
+    fn refusal(&self, t: &Table, call: &Call) -> Option<u64> {
+        let finite = self.finite.as_ref()?;
+        match call {
+            Call::Get(key) | Call::Contains(key) | Call::Remove(key) => Some(2).filter(|_| key.room() > 255),
+            Call::Insert(key, _) | Call::Entry(key) => {
+                let used: u64 = finite.keys().iter().map(Key::room).sum();
+                let absent = finite.get(key).is_none();
+                if key.room() > 255 {
+                    Some(2)
+                } else if absent && finite.len() == t.slots() {
+                    Some(7)
+                } else if absent && used + key.room() > t.arena.len() as u64 {
+                    Some(8)
+                } else {
+                    None
+                }
+            }
+            Call::Reserve(asked) => Some(7).filter(|_| *asked > (t.slots() - finite.len()) as u64),
+            _ => None,
+        }
+    }
+
+    /// Holds an answer to the finite map, and changes the map as the call does; `before` is the table before it.
+    pub fn judge(&mut self, before: &Table, t: &Table, call: &Call, walk: Option<usize>, answer: &Answer) -> Verdict {
+        let due = self.refusal(before, call);
+        let finite = match self.finite.as_mut() {
+            Some(finite) => finite,
+            None => return Ok(()),
+        };
+        if let Answer::Refused(number) = answer {
+            let decided = matches!(call, Call::Get(_) | Call::Contains(_) | Call::Remove(_) | Call::Insert(..) | Call::Entry(_) | Call::Reserve(_));
+            hold(!decided || due == Some(*number), "the refusal")?;
+            return hold(*number != 5, "damage in a sound table");
+        }
+        hold(due.is_none(), "a refusal is due")?;
+        match call {
+            Call::Step(..) => self.judge_step(t, walk, answer)?,
+            Call::Remove(key) | Call::OccupiedRemove(key, _) => {
+                hold(told_value(answer) == finite.remove(key), "the removed value")?;
+                self.forget(Some(key));
+            }
+            _ => judge_lookup(finite, call, answer)?,
+        }
+        self.judge_memory(t)
+    }
+
+    fn judge_memory(&self, t: &Table) -> Verdict {
+        let finite = self.finite.as_ref().unwrap();
+        hold(*finite == Finite::of(t), "the live slots")?;
+        hold(finite.len() == t.live().len(), "a key stands twice")
+    }
+
+    /// A key, or every key, was removed.
+    fn forget(&mut self, key: Option<&Key>) {
+        for walk in &mut self.walks {
+            match key {
+                Some(key) => {
+                    walk.staying.remove(key);
+                    walk.handed.remove(key);
+                }
+                None => {
+                    walk.staying.clear();
+                    walk.handed.clear();
+                }
+            }
+        }
+    }
+
+    fn judge_step(&mut self, t: &Table, number: Option<usize>, answer: &Answer) -> Verdict {
+        let finite = self.finite.as_ref().unwrap();
+        if let Answer::Pair { slot, .. } = answer {
+            hold(finite.get(&t.key_at(*slot)) == Some(t.value_at(*slot)), "a pair that is not there")?;
+        }
+        let number = match number {
+            Some(number) => number,
+            None => return Ok(()),
+        };
+        let walk = &mut self.walks[number];
+        walk.steps += 1;
+        match answer {
+            Answer::Pair { slot, walk: at, .. } => {
+                hold(walk.handed.insert(t.key_at(*slot)), "a key is handed out twice")?;
+                walk.at = *at;
+            }
+            Answer::Nothing { walk: at, .. } => walk.at = *at,
+            _ => (),
+        }
+        if walk.at == t.slots() as u64 {
+            let walk = self.walks.swap_remove(number);
+            hold(walk.steps <= t.slots() as u64, "a walk of too many steps")?;
+            hold(walk.staying.is_subset(&walk.handed), "a staying key is not handed out")?;
+        }
+        Ok(())
+    }
+
+    /// A table was made or cleared.
+    pub fn made(&mut self, t: &Table) -> Verdict {
+        self.forget(None);
+        self.finite = Some(Finite::empty(t.kind.values));
+        self.judge_memory(t)
+    }
+
+    /// Another table was copied onto this one.
+    pub fn copied(&mut self, from: &Judge, t: &Table) -> Verdict {
+        self.forget(None);
+        self.finite = from.finite.clone();
+        if self.finite.is_some() {
+            return self.judge_memory(t);
+        }
+        *self = Judge::default();
+        Ok(())
+    }
+
+    /// Another table was joined to this one.
+    pub fn joined(&mut self, right: &Judge, t: &Table) -> Verdict {
+        if let (Some(finite), Some(other)) = (self.finite.as_mut(), right.finite.as_ref()) {
+            for key in other.keys() {
+                finite.insert(&key, other.get(&key).unwrap());
+            }
+            return self.judge_memory(t);
+        }
+        *self = Judge::default();
+        Ok(())
+    }
+}
+
+/// The value that an answer tells; nothing where the key was absent.
+fn told_value(answer: &Answer) -> Option<u64> {
+    match answer {
+        Answer::Found { value, .. } | Answer::Removed { value, .. } | Answer::HandleRemoved { value } => Some(*value),
+        Answer::Occupied { value, .. } | Answer::HandleValue { value, .. } | Answer::HandleNow { value, .. } => Some(*value),
+        Answer::Replaced { old, .. } | Answer::HandleSet { old, .. } => Some(*old),
+        Answer::Present { .. } => Some(0),
+        _ => None,
+    }
+}
+
+/// The calls that look a key up or give it a value.
+fn judge_lookup(finite: &mut Finite, call: &Call, answer: &Answer) -> Verdict {
+    let told = told_value(answer);
+    match call {
+        Call::Get(key) | Call::Entry(key) | Call::OccupiedGet(key, _) => hold(told == finite.get(key), "the value"),
+        Call::Contains(key) => hold(told.is_some() == finite.get(key).is_some(), "whether it is there"),
+        Call::Insert(key, value) | Call::OccupiedSet(key, _, value) => hold(told == finite.insert(key, *value), "the old value"),
+        Call::VacantInsert(key, _, value) | Call::OrInsert(key, false, _, value) | Call::InsertEntry(key, false, _, value) => {
+            hold(finite.insert(key, *value).is_none(), "a vacant handle of a key that is there")
+        }
+        Call::OrInsert(key, true, _, _) => hold(told == finite.get(key) && told.is_some(), "the value kept"),
+        Call::InsertEntry(key, true, _, value) => hold(finite.insert(key, *value).is_some(), "an occupied handle of an absent key"),
+        Call::Len => hold(*answer == Answer::Length(finite.len() as u64), "the length"),
+        Call::IsEmpty => hold(*answer == Answer::Empty(finite.len() == 0), "emptiness"),
+        _ => Ok(()),
+    }
+}

@@ -1,0 +1,137 @@
+/* What there is to play: the kinds of tables, their columns and calls, and the library's function for each call of a kind. */
+#ifndef KINDS_H
+#define KINDS_H
+
+#include "mosspillow.h"
+
+#include <stdbool.h>
+#include <stddef.h>
+#include <stdint.h>
+
+enum { MOST_COLUMNS = 5 };
+
+/* A column of a table: its name, the bytes of an element in memory and in the digest. */
+struct column {
+    const char *name;
+    size_t width;
+    size_t told;
+};
+
+/* A lent array: `count` elements that end where a guard page starts, the filled bytes before them, and what it held before the call. */
+struct array {
+    size_t count;
+    uint8_t *pages;
+    size_t mapped;
+    size_t margin;
+    uint8_t *data;
+    uint8_t *before;
+};
+
+struct table {
+    struct array columns[MOST_COLUMNS];
+};
+
+/* The arguments of a call; a key is a word or lent bytes. */
+struct order {
+    struct table *table;
+    struct table *other;
+    uint64_t key;
+    struct array bytes;
+    uint64_t value;
+    uint64_t which;
+    uint64_t slot;
+    uint64_t asked;
+    uint64_t walk;
+    uint64_t budget;
+};
+
+typedef moss_answer function(const struct order *order);
+
+enum call {
+    MAKE, CLEAR, LEN, IS_EMPTY, CAPACITY, RESERVE, GET, CONTAINS, REMOVE, INSERT, ENTRY, OCCUPIED_GET, OCCUPIED_REMOVE, OCCUPIED_SET,
+    VACANT_INSERT, OR_INSERT, INSERT_ENTRY, STEP, UNION, COPY, CALLS
+};
+
+/* A kind of table: its columns, whether it has values, whether its keys are bytes, and its functions by call. */
+struct kind {
+    const char *name;
+    size_t columns;
+    struct column column[MOST_COLUMNS];
+    bool values;
+    bool bytes;
+    function *functions[CALLS];
+    function *remove_entry;
+};
+
+#define SMALL(t, c) (t)->columns[c].data, (t)->columns[c].count
+#define SHORTS(t, c) (uint16_t *)(void *)(t)->columns[c].data, (t)->columns[c].count
+#define WORDS(t, c) (uint64_t *)(void *)(t)->columns[c].data, (t)->columns[c].count
+#define INT_MAP(t) SMALL(t, 0), WORDS(t, 1), WORDS(t, 2)
+#define INT_SET(t) SMALL(t, 0), WORDS(t, 1)
+#define BYTE_MAP(t) SMALL(t, 0), SHORTS(t, 1), SMALL(t, 2), WORDS(t, 3), SMALL(t, 4)
+#define BYTE_SET(t) SMALL(t, 0), SHORTS(t, 1), SMALL(t, 2), SMALL(t, 3)
+#define INT_KEY(o) (o)->key
+#define BYTE_KEY(o) (o)->bytes.data, (o)->bytes.count
+
+/* The player's function of one call: further words are the arguments of the library's. */
+#define CALL(kind, name, ...) \
+    static moss_answer kind##_##name(const struct order *o) { return moss_##kind##_##name(__VA_ARGS__); }
+
+/* The calls that every kind has but insert; T lends a table, KEY a key. */
+#define TABLE_CALLS(kind, T, KEY) \
+    CALL(kind, make, T(o->table)) \
+    CALL(kind, clear, T(o->table)) \
+    CALL(kind, len, T(o->table)) \
+    CALL(kind, is_empty, T(o->table)) \
+    CALL(kind, capacity, T(o->table)) \
+    CALL(kind, reserve, T(o->table), o->asked) \
+    CALL(kind, get, T(o->table), KEY(o)) \
+    CALL(kind, remove, T(o->table), KEY(o)) \
+    CALL(kind, step, T(o->table), o->walk, o->budget) \
+    CALL(kind, copy, T(o->table), T(o->other))
+
+#define SET_CALLS(kind, T, KEY) \
+    TABLE_CALLS(kind, T, KEY) \
+    CALL(kind, contains, T(o->table), KEY(o)) \
+    CALL(kind, insert, T(o->table), KEY(o))
+
+#define MAP_CALLS(kind, T, KEY) \
+    TABLE_CALLS(kind, T, KEY) \
+    CALL(kind, contains_key, T(o->table), KEY(o)) \
+    CALL(kind, insert, T(o->table), KEY(o), o->value) \
+    CALL(kind, entry, T(o->table), KEY(o)) \
+    CALL(kind, occupied_get, T(o->table), o->slot, KEY(o)) \
+    CALL(kind, occupied_remove, T(o->table), o->slot, KEY(o)) \
+    CALL(kind, occupied_remove_entry, T(o->table), o->slot, KEY(o)) \
+    CALL(kind, occupied_set, T(o->table), o->slot, KEY(o), o->value) \
+    CALL(kind, vacant_insert, T(o->table), o->slot, KEY(o), o->value) \
+    CALL(kind, or_insert, T(o->table), o->which, o->slot, KEY(o), o->value) \
+    CALL(kind, insert_entry, T(o->table), o->which, o->slot, KEY(o), o->value) \
+    CALL(kind, union_prefer_right, T(o->table), T(o->other))
+
+MAP_CALLS(int_map, INT_MAP, INT_KEY)
+SET_CALLS(int_set, INT_SET, INT_KEY)
+MAP_CALLS(byte_map, BYTE_MAP, BYTE_KEY)
+SET_CALLS(byte_set, BYTE_SET, BYTE_KEY)
+
+/* The functions of a kind by call. */
+#define TABLE_FUNCTIONS(kind) \
+    [MAKE] = kind##_make, [CLEAR] = kind##_clear, [LEN] = kind##_len, [IS_EMPTY] = kind##_is_empty, [CAPACITY] = kind##_capacity, \
+    [RESERVE] = kind##_reserve, [GET] = kind##_get, [REMOVE] = kind##_remove, [INSERT] = kind##_insert, [STEP] = kind##_step, \
+    [COPY] = kind##_copy
+#define SET_FUNCTIONS(kind) {TABLE_FUNCTIONS(kind), [CONTAINS] = kind##_contains}, NULL
+#define MAP_FUNCTIONS(kind) \
+    {TABLE_FUNCTIONS(kind), [CONTAINS] = kind##_contains_key, [ENTRY] = kind##_entry, [OCCUPIED_GET] = kind##_occupied_get, \
+        [OCCUPIED_REMOVE] = kind##_occupied_remove, [OCCUPIED_SET] = kind##_occupied_set, [VACANT_INSERT] = kind##_vacant_insert, \
+        [OR_INSERT] = kind##_or_insert, [INSERT_ENTRY] = kind##_insert_entry, [UNION] = kind##_union_prefer_right}, \
+    kind##_occupied_remove_entry
+
+static const struct kind kinds[] = {
+    {"intmap", 3, {{"marks", 1, 1}, {"keys", 8, 8}, {"values", 8, 8}}, true, false, MAP_FUNCTIONS(int_map)},
+    {"intset", 2, {{"marks", 1, 1}, {"keys", 8, 8}}, false, false, SET_FUNCTIONS(int_set)},
+    {"bytemap", 5, {{"marks", 1, 1}, {"offsets", 2, 2}, {"lengths", 1, 2}, {"values", 8, 8}, {"arena", 1, 1}}, true, true,
+        MAP_FUNCTIONS(byte_map)},
+    {"byteset", 4, {{"marks", 1, 1}, {"offsets", 2, 2}, {"lengths", 1, 2}, {"arena", 1, 1}}, false, true, SET_FUNCTIONS(byte_set)},
+};
+
+#endif
