@@ -1,8 +1,9 @@
 /* Mosspillow for C and C++: maps and sets over lent slot arrays.
- * Link with target/staticlib/libmosspillow.a (x86-64), which `rt staticlib mosspillow` writes.
+ * Link with libmosspillow.a (x86-64), which `bash tools/library` builds.
  *
- * A call takes each lent array as a pointer and a count of elements. The arrays lent to one call must not overlap. A null
- * pointer is allowed where the count is 0. Any contents are allowed: a call answers, or refuses and stores nothing. */
+ * A call takes each lent array as a pointer and a count of elements. The arrays lent to one call must not overlap, those of the two
+ * tables of union and copy included. A null pointer is allowed where the count is 0. Any contents are allowed: a call answers, or
+ * refuses and stores nothing. The second half of this header has each table as a struct, its storage, and the same calls on it. */
 #ifndef MOSSPILLOW_H
 #define MOSSPILLOW_H
 
@@ -410,7 +411,7 @@ moss_answer moss_byte_set_step(const uint8_t *MOSS_RESTRICT marks, size_t marks_
     const uint8_t *MOSS_RESTRICT lengths, size_t lengths_count, const uint8_t *MOSS_RESTRICT arena, size_t arena_count, uint64_t walk,
     uint64_t budget);
 
-/* ---- Tables as structs ----
+/* Tables as structs.
  *
  * A struct bundles a table's lent arrays. MOSS_INT_MAP(name, S) declares one with its static storage; it is empty, as if made. The
  * moss_im_ calls take such a struct and do what the moss_int_map_ call of that name does; moss_is_, moss_bm_ and moss_bs_ are
