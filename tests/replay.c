@@ -1,7 +1,8 @@
 /* Plays scenario files: reads one on standard input, lends the memory it describes to the library, makes its calls, and prints the
  * file again with the library's answers, so that `diff` against the input is the comparison. After each answer it prints the digest
  * of all lent memory, or with `--memory` the arrays that the call changed. Answers, digests and memory found in the input are
- * ignored. Every lent array ends at a page that may not be touched, and the bytes before it are looked at after each call.
+ * ignored. Lines `digest BYTES HEX16` and `home BYTES COUNT ANSWER` may stand between scenarios.
+ * Every lent array ends at a page that may not be touched, and the bytes before it are looked at after each call.
  * Status 2: the file is malformed. Status 3: an answer has a number that its case does not have, or memory beside an array changed. */
 #define _DEFAULT_SOURCE
 #include "kinds.h"
@@ -397,11 +398,11 @@ static bool starts(const char *with)
     return strncmp(line, with, strlen(with)) == 0;
 }
 
-/* The next line that is not an answer, a digest or memory after a call; comments and empty lines are printed again. */
-static bool next_thing(void)
+/* The next line; inside a scenario not an answer, a digest or memory after a call. Comments and empty lines are printed again. */
+static bool next_thing(bool inside)
 {
     while (next_line()) {
-        if (starts("answer ") || starts("digest ") || starts("  "))
+        if (inside && (starts("answer ") || starts("digest ") || starts("  ")))
             continue;
         if (line[0] != '#' && line[0] != '\0')
             return true;
@@ -412,7 +413,7 @@ static bool next_thing(void)
 
 static void need_thing(void)
 {
-    if (!next_thing())
+    if (!next_thing(true))
         stop(MALFORMED, "the file ends inside a scenario");
 }
 
@@ -677,13 +678,34 @@ static void play_scenario(bool memory)
     take_back(kind, &tables[1]);
 }
 
+/* `digest BYTES HEX16` or `home BYTES COUNT ANSWER`, outside scenarios: the same with the library's answer. */
+static void play_key(void)
+{
+    char *rest = line, *name = cut(&rest), *word = cut(&rest);
+    struct array bytes = bytes_of(word);
+    if (strcmp(name, "digest") == 0) {
+        printf("digest %s %016" PRIx64 "\n", word, moss_digest(bytes.data, bytes.count));
+    } else {
+        uint64_t slots = number_of(cut(&rest), UINT64_MAX);
+        printf("home %s %" PRIu64 " %" PRIu64 "\n", word, slots, moss_home(bytes.data, bytes.count, slots));
+    }
+    if (cut(&rest) == NULL)
+        stop(MALFORMED, "an answer is missing");
+    no_more(rest);
+    take_back_array(&bytes);
+}
+
 int main(int count, char **words)
 {
     bool memory = count == 2 && strcmp(words[1], "--memory") == 0;
     if (count > 1 && !memory)
         stop(MALFORMED, "the only option is --memory");
-    while (next_thing())
-        play_scenario(memory);
+    while (next_thing(false)) {
+        if (starts("digest ") || starts("home "))
+            play_key();
+        else
+            play_scenario(memory);
+    }
     free(line);
     return 0;
 }
