@@ -54,7 +54,7 @@ pub struct Scene {
 
 /// How often each call is chosen, in the order of `Scene::call`: on sound tables, and on damaged ones of right sizes.
 const CHANGING: [u64; 20] = [4, 4, 2, 2, 1, 1, 4, 8, 8, 12, 22, 6, 3, 7, 5, 5, 5, 5, 6, 6];
-const DAMAGED: [u64; 20] = [4, 4, 1, 1, 1, 1, 6, 10, 10, 10, 14, 8, 8, 10, 10, 10, 10, 10, 12, 12];
+const DAMAGED: [u64; 20] = [4, 4, 1, 1, 1, 1, 6, 10, 10, 10, 16, 14, 8, 16, 10, 10, 10, 10, 12, 12];
 
 const SMALL: [usize; 9] = [1, 2, 3, 4, 5, 7, 8, 13, 16];
 const LARGE: [usize; 6] = [64, 100, 1_024, 1_025, 4_095, 4_096];
@@ -66,6 +66,15 @@ fn word(random: &mut Random) -> u64 {
         1 => random.next(),
         2 => 1 << random.below(64),
         _ => random.below(40),
+    }
+}
+
+/// Most often few slots, so that keys meet each other.
+fn small(random: &mut Random) -> usize {
+    if random.once_in(10) {
+        1 + random.below(120) as usize
+    } else {
+        random.pick(&SMALL)
     }
 }
 
@@ -87,7 +96,7 @@ impl Scene {
     pub fn new(random: &mut Random, number: u64) -> Scene {
         let kind = KINDS[(number % 4) as usize];
         let large = number % 50 >= 46;
-        let slots = if large { LARGE[(number / 50 % 6) as usize] } else { random.pick(&SMALL) };
+        let slots = if large { LARGE[(number / 50 % 6) as usize] } else { small(random) };
         let memory = match random.below(5) {
             0 => Memory::Any,
             1 | 2 => Memory::Touched,
@@ -109,18 +118,18 @@ impl Scene {
 
     /// The second table: of the same sizes, or of others.
     fn second(random: &mut Random, kind: Kind, memory: Memory, slots: usize, arena: usize, keys: &[Key]) -> Table {
-        let slots = if random.once_in(2) { slots.min(100) } else { random.pick(&SMALL) };
+        let slots = if random.once_in(2) { slots.min(100) } else { small(random) };
         let arena = if random.once_in(2) { arena } else { random.pick(&ARENAS) };
         let memory = if memory == Memory::Touched && random.once_in(2) { Memory::Sound } else { memory };
         Scene::table(random, kind, memory, slots, arena, keys, false)
     }
 
     fn table(random: &mut Random, kind: Kind, memory: Memory, slots: usize, arena: usize, keys: &[Key], large: bool) -> Table {
-        let tight = !large && random.once_in(4);
+        let tight = !large && random.once_in(3);
         let mut table = Table::made(kind, slots, if tight { 32_768 } else { arena });
         let other = table.clone();
         let most = slots.min(keys.len()) as u64;
-        let puts = if tight { 8 * most } else { random.below(2 * most + 2) };
+        let puts = if tight { 12 * most } else { random.below(2 * most + 2) };
         for _ in 0..puts {
             let key = random.pick(keys);
             if random.once_in(4) {
@@ -161,13 +170,13 @@ impl Scene {
     fn touch(random: &mut Random, t: &mut Table) {
         let i = random.below(t.slots() as u64) as usize;
         let j = random.below(t.slots() as u64) as usize;
-        match random.below(6) {
+        match random.below(8) {
             0 => t.marks[i] = random.below(3),
             1 => t.marks[i] = random.pick(&[3, 4, 255]),
             2 if t.kind.bytes => (t.offsets[i], t.lengths[i]) = (t.offsets[j], t.lengths[j]),
             2 => t.keys[i] = t.keys[j],
-            3 if t.kind.bytes => t.offsets[i] = random.below(t.arena.len() as u64 + 2),
-            4 if t.kind.bytes => t.lengths[i] = random.below(4),
+            3 | 6 if t.kind.bytes => t.offsets[i] = random.below(t.arena.len() as u64 + 2),
+            4 | 7 if t.kind.bytes => t.lengths[i] = random.below(4),
             5 if t.kind.bytes && !t.arena.is_empty() => {
                 let at = random.below(t.arena.len() as u64) as usize;
                 t.arena[at] = u64::from(b'a') + random.below(3);
@@ -260,7 +269,7 @@ impl Scene {
             8 => Call::Contains(key),
             9 => Call::Remove(key),
             10 => Call::Insert(key, value),
-            11 => Call::Step(random.pick(&[0, 1, slots / 2, slots, slots + 1, u64::MAX, slot, slot]), random.pick(&[0, 0, 1, 2, slots, u64::MAX])),
+            11 => Call::Step(random.pick(&[0, slots / 2, slots, slots + 1, u64::MAX, slot, slot, slot]), random.pick(&[0, 0, 1, 2, slots, u64::MAX])),
             12 => Call::Union,
             13 => Call::Entry(key),
             14 => Call::OccupiedGet(key, slot),
