@@ -24,13 +24,14 @@ use Rattle.spans.specs.Probing.{pathOf}
 use Rattle.spans.proofs.Bridge.{path-is, used-is}
 use Rattle.spans.proofs.Held.{bare-damaged, unharmed-whole}
 use Rattle.spans.proofs.Marks.{slot-cell}
+use Rattle.byte_map.specs.Seeking.{sizedOf}
 use Rattle.byte_union.specs.declared.Planned.{Planned}
 use Rattle.byte_union.specs.declared.Planned.the-variants.{Go, Refused}
-use Rattle.byte_union.specs.Needs.{missing, lackOf, lacksOf, roomOf, planned, fittingMap, planOf}
+use Rattle.byte_union.specs.Needs.{missing, lackOf, lacksOf, roomOf, planned, planOf}
 
 -- right sizes: both tests, and few slots
-pub sized-fits : (m : Strings values) {b : Bool} → b ≡ fittingMap m → b ≡ true → fitting (m .spans) ≡ true
-unfolding fittingMap
+pub sized-fits : (m : Strings values) {b : Bool} → b ≡ sizedOf maps m → b ≡ true → fitting (m .spans) ≡ true
+unfolding sizedOf
 sized-fits m p q = both (fitting (m .spans)) (eqb (length (m .spans .marks)) (length (m .words))) (sym p ∙ q) .0
 
 pub few-slots : (s : Spans) → fitting s ≡ true → length (s .marks) ≤ 4096
@@ -88,18 +89,18 @@ unfolding give need
 give-need v true n a = refl
 give-need v false n a = refl
 
-module _ (l r : Strings values) {b : Bool} (p : b ≡ fittingMap l) where
+module _ (l r : Strings values) {b : Bool} (p : b ≡ sizedOf maps l) where
   -- sizes
   pub left-unfit : b ≡ false → planned (Refused Sizes) ≡ planOf l r
-  unfolding planned planOf union need give fittingMap
+  unfolding planned planOf union need give sizedOf
   left-unfit q = rw (sym p ∙ q)
 
-  module _ (q : b ≡ true) {c : Bool} (s : c ≡ fittingMap r) where
+  module _ (q : b ≡ true) {c : Bool} (s : c ≡ sizedOf maps r) where
     pub right-unfit : c ≡ false → planned (Refused Sizes) ≡ planOf l r
-    unfolding planned planOf union need give fittingMap
+    unfolding planned planOf union need give sizedOf
     right-unfit t = rw (sym p ∙ q, sym s ∙ t)
 
     -- the rest of the tests
     pub room-plan : {o : Or ℕ} → c ≡ true → o ≡ roomOf (l .spans) (r .spans) → o ≡ planOf l r
-    unfolding planOf roomOf lacksOf union need give fittingMap
+    unfolding planOf roomOf lacksOf union need give sizedOf
     room-plan t e = e ∙ (rw (sym p ∙ q, sym s ∙ t, ruined-is l, ruined-is r, needs-are (λ k. 1) l r, needs-are length l r, live-is l, used-is values l, give-need, give-need, give-need, give-need))

@@ -9,16 +9,16 @@ ghost use Rattle.kinds.specs.Calls.{unionOf};
 ghost use Rattle.kinds.specs.Told.{told};
 ghost use Rattle.spans.specs.Memory.{spansOf, fitting, usedOf};
 ghost use Rattle.spans.specs.Kinds.{maps, mapMemory};
-ghost use Rattle.byte_union.specs.Needs.{neededBy, lackAt, lacksOf, planned, roomOf, fittingMap, planOf};
+ghost use Rattle.byte_union.specs.Needs.{neededBy, lackAt, lacksOf, planned, roomOf, planOf};
 ghost use Rattle.byte_union.specs.Stores.{Ready, Storable, pairAt, pairsOf, slotStored, allStored};
 use answers::Outcome;
 use answers::Refusal;
 use arena::fill;
+use byte_map::map_fits;
 use kinds::Probed;
 use kinds::Scanned;
 use spans::Surveyed;
 use spans::byte_at;
-use spans::fits;
 use spans::mark_at;
 use spans::offset_at;
 use spans::probe;
@@ -162,16 +162,6 @@ fn room(
         return Planned::Refused(Refusal::NoBytes);
     }
     Planned::Refused(Refusal::NoSlot)
-}
-
-// Whether a map's lent arrays are of right sizes.
-fn map_fits(marks: &[u8], offsets: &[u16], lengths: &[u8], values: &[u64], arena: &[u8]) -> bool
-    ensures { λ r. ⌜ r ≡ fittingMap (mapMemory (now (marks .entry)) (now (offsets .entry)) (now (lengths .entry)) (now (values .entry)) (now (arena .entry))) ⌝ }
-{
-    if fits(marks, offsets, lengths, arena) {
-        return marks.len() == values.len();
-    }
-    false
 }
 
 // The union's tests.
