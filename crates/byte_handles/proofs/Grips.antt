@@ -14,7 +14,7 @@ use Rattle.answers.specs.declared.Refusal.the-variants.{Sizes, LongKey, BadHand
 use Rattle.answers.specs.Refusals.{numberOf}
 use Rattle.answers.specs.Said.{heldSaid, swappedSaid}
 use Rattle.kinds.specs.declared.Sight.{Sight}
-use Rattle.kinds.specs.declared.Sight.the-variants.{Never, Bad, Same, On}
+use Rattle.kinds.specs.declared.Sight.the-variants.{Never, Freed, Bad, Same, Other}
 use Rattle.kinds.specs.Calls.{heldOf, setOf}
 use Rattle.kinds.specs.Columns.{values}
 use Rattle.kinds.specs.Marks.{cell}
@@ -57,9 +57,10 @@ grip-cell i a k v (suc (suc (suc m))) = refl
 held-slot : (i v w : ℕ) {h : Occupied} (s : Sight) → heldBy i v s ≡ held.Value w h → h .slot ≡ i
 unfolding heldBy
 held-slot i v w Never e = clash cc
+held-slot i v w Freed e = clash cc
 held-slot i v w Bad e = clash cc
 held-slot i v w Same e = cc
-held-slot i v w On e = clash cc
+held-slot i v w Other e = clash cc
 
 module _ (m : Strings values) (i : ℕ) (k : List ℕ) where
   -- the handle's test, as the code makes it

@@ -14,7 +14,7 @@ use Rattle.answers.specs.declared.Refusal.the-variants.{Sizes, LongKey, Damaged
 use Rattle.answers.specs.Refusals.{numberOf}
 use Rattle.answers.specs.Said.{takenSaid}
 use Rattle.kinds.specs.declared.Sight.{Sight}
-use Rattle.kinds.specs.declared.Sight.the-variants.{Never, Bad, Same, On}
+use Rattle.kinds.specs.declared.Sight.the-variants.{Never, Freed, Bad, Same, Other}
 use Rattle.kinds.specs.Calls.{takenOf}
 use Rattle.kinds.specs.Columns.{values}
 use Rattle.kinds.specs.Marks.{cell}
@@ -70,9 +70,10 @@ look-live k a (suc (suc (suc m))) e = clash cc
 held-same : (i w u v x : ℕ) (s : Sight) → pulledBy u (heldBy i w s) ≡ pulled.Out v x → (s ≡ Same) × (u ≡ x)
 unfolding heldBy pulledBy
 held-same i w u v x Never e = clash cc
+held-same i w u v x Freed e = clash cc
 held-same i w u v x Bad e = clash cc
 held-same i w u v x Same e = (refl, cc)
-held-same i w u v x On e = clash cc
+held-same i w u v x Other e = clash cc
 
 module _ (m : Strings values) (i : ℕ) (k : List ℕ) where
   -- the plan, as the code makes it

@@ -7,7 +7,7 @@ use lib.ListN.{length, getD}
 use Rattle.answers.specs.declared.Refusal.the-variants as refusal
 use Rattle.answers.specs.Refusals.{numberOf}
 use Rattle.kinds.specs.declared.Sight.{Sight}
-use Rattle.kinds.specs.declared.Sight.the-variants.{Never, Bad, Same, On}
+use Rattle.kinds.specs.declared.Sight.the-variants.{Never, Freed, Bad, Same, Other}
 use Rattle.kinds.specs.Columns.{values}
 use Rattle.spans.specs.declared.Placed.{Placed}
 use Rattle.spans.specs.declared.Placed.the-variants as placed
@@ -25,9 +25,10 @@ use Rattle.byte_handles.specs.declared.Pulled.the-variants as pulled
 -- What an occupied handle of the slot i, with the value v in it, holds by the look at the slot.
 unfoldable pub heldBy : ℕ → ℕ → Sight → Held
 heldBy i v Never = held.Refused refusal.BadHandle
+heldBy i v Freed = held.Refused refusal.BadHandle
 heldBy i v Bad = held.Refused refusal.Damaged
 heldBy i v Same = held.Value v (record { slot = i })
-heldBy i v On = held.Refused refusal.BadHandle
+heldBy i v Other = held.Refused refusal.BadHandle
 
 -- The same of any slot number: a handle of S or above is not good.
 unfoldable pub gripping : Strings values → ℕ → List ℕ → Held

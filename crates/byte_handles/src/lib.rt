@@ -64,9 +64,10 @@ fn held_by(sight: Sight, slot: usize, value: u64) -> Held
 {
     match sight {
         Sight::Never => Held::Refused(Refusal::BadHandle),
+        Sight::Freed => Held::Refused(Refusal::BadHandle),
         Sight::Bad => Held::Refused(Refusal::Damaged),
         Sight::Same => Held::Value(value, Occupied { slot }),
-        Sight::On => Held::Refused(Refusal::BadHandle),
+        Sight::Other => Held::Refused(Refusal::BadHandle),
     }
 }
 

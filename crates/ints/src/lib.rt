@@ -19,7 +19,6 @@ use kinds::count_mark;
 use kinds::ended_at;
 use kinds::first_free;
 use kinds::next_slot;
-use kinds::passed_free;
 
 // Whether marks and keys are of one length that a table may have.
 pub fn fits(marks: &[u8], keys: &[u64]) -> bool
@@ -35,19 +34,19 @@ pub fn fits(marks: &[u8], keys: &[u64]) -> bool
 fn look(mark: u8, held: u64, key: u64) -> Sight
     ensures { λ r. ⌜ r ≡ lookOf integers key mark held ⌝ }
 {
+    if mark == 1 {
+        if held == key {
+            return Sight::Same;
+        }
+        return Sight::Other;
+    }
     if mark == 0 {
         return Sight::Never;
     }
-    if 2 < mark {
-        return Sight::Bad;
-    }
     if mark == 2 {
-        return Sight::On;
+        return Sight::Freed;
     }
-    if held == key {
-        return Sight::Same;
-    }
-    Sight::On
+    Sight::Bad
 }
 
 // The path of a key from its home slot, slot by slot: each break is an answer.
@@ -63,15 +62,16 @@ fn walk_path(marks: &[u8], keys: &[u64], key: u64, home: usize) -> Probed
         if n == size {
             break ended_at(free, size, n);
         }
-        let mark = marks[slot];
-        let sight = look(mark, keys[slot], key);
+        let sight = look(marks[slot], keys[slot], key);
         match sight {
             Sight::Never => break ended_at(first_free(free, slot, size), size, n + 1),
+            Sight::Freed => {
+                free = first_free(free, slot, size);
+            }
             Sight::Bad => break Probed::Refused(Refusal::Damaged),
             Sight::Same => break Probed::Hit(slot, n + 1),
-            Sight::On => {}
+            Sight::Other => {}
         }
-        free = passed_free(mark, free, slot, size);
         slot = next_slot(slot, size);
         n += 1;
     }

@@ -4,15 +4,14 @@ use mathlib.Core.Bool.{Bool, true, false}
 use mathlib.Core.List.{List}
 use mathlib.Core.Path.{_≡_, refl, sym, _∙_}
 use native.Mathlib.Omega.{arith}
-use lib.Dec.{eqb, leb}
 use lib.ListN.{length, getD, take, drop}
 use Rattle.kinds.specs.Marks.{cell}
-use Rattle.kinds.specs.declared.Sight.the-variants.{Never, Bad, Same, On}
-use Rattle.kinds.specs.Probing.{lookAt, lookOf, passedFree}
+use Rattle.kinds.specs.declared.Sight.the-variants.{Never, Freed, Bad, Same, Other}
+use Rattle.kinds.specs.Probing.{lookAt, lookOf}
 use Rattle.kinds.proofs.Scanning.{cell-bad}
 use Rattle.spans.specs.Keys.{sameBytes}
 use Rattle.spans.specs.Memory.{Spans, part, endAt, keyAt}
-use Rattle.spans.specs.Marks.{shown, markAt}
+use Rattle.spans.specs.Marks.{markAt}
 use Rattle.spans.specs.Probing.{sightAt}
 use Rattle.spans.proofs.Marks.{live-within}
 
@@ -35,7 +34,7 @@ module _ (s : Spans) (k : List ℕ) (i : ℕ) {m : ℕ} (p : m ≡ markAt s i) w
   unfolding sightAt lookOf lookAt
   sight-bad l = rw (← p, cell-bad m (keyAt s i) (tt {0}) l)
 
-  pub sight-freed : m ≡ 2 → On ≡ sightAt s k i
+  pub sight-freed : m ≡ 2 → Freed ≡ sightAt s k i
   unfolding sightAt lookOf lookAt cell
   sight-freed e = rw (← p, e)
 
@@ -47,20 +46,8 @@ module _ (s : Spans) (k : List ℕ) (i : ℕ) {m : ℕ} (p : m ≡ markAt s i) w
         let x : markAt s i ≡ 1 = omega arith in
         let z : sameBytes (keyAt s i) k ≡ true = rw (← part-key s i q r, ← w) y in rw (x, z)
 
-    pub sight-on : t ≡ false → On ≡ sightAt s k i
+    pub sight-other : t ≡ false → Other ≡ sightAt s k i
     unfolding sightAt lookOf lookAt cell
-    sight-on y =
+    sight-other y =
         let x : markAt s i ≡ 1 = omega arith in
         let z : sameBytes (keyAt s i) k ≡ false = rw (← part-key s i q r, ← w) y in rw (x, z)
-
--- only mark 2 is passed as free, and it is shown as it is
-shown-freed : (b : Bool) (m : ℕ) → eqb m 2 ≡ eqb (shown b m) 2
-unfolding shown
-shown-freed b zero = refl
-shown-freed true (suc zero) = refl
-shown-freed false (suc zero) = refl
-shown-freed b (suc (suc m)) = refl
-
-pub passed-shown : (s : Spans) (S f i : ℕ) {r : ℕ} → r ≡ passedFree S f i (getD (s .marks) i 0) → r ≡ passedFree S f i (markAt s i)
-unfolding passedFree markAt
-passed-shown s S f i p = p ∙ (rw (shown-freed (leb (endAt s i) (length (s .arena))) (getD (s .marks) i 0)))

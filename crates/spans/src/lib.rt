@@ -22,7 +22,6 @@ use kinds::count_mark;
 use kinds::ended_at;
 use kinds::first_free;
 use kinds::next_slot;
-use kinds::passed_free;
 
 // The most bytes that an arena has.
 pub const ARENA_LIMIT: usize = 32768;
@@ -168,14 +167,14 @@ pub fn look(
         return Sight::Bad;
     }
     if mark == 2 {
-        return Sight::On;
+        return Sight::Freed;
     }
     let start = offset_at(offsets, slot) as usize;
     let end = end_at(offsets, lengths, slot);
     if same_bytes(&arena[start..end], key) {
         return Sight::Same;
     }
-    Sight::On
+    Sight::Other
 }
 
 // The path of a key from its home slot, slot by slot: each break is an answer.
@@ -201,11 +200,13 @@ fn walk_path(
         let sight = look(marks, offsets, lengths, arena, slot, key);
         match sight {
             Sight::Never => break ended_at(first_free(free, slot, size), size, n + 1),
+            Sight::Freed => {
+                free = first_free(free, slot, size);
+            }
             Sight::Bad => break Probed::Refused(Refusal::Damaged),
             Sight::Same => break Probed::Hit(slot, n + 1),
-            Sight::On => {}
+            Sight::Other => {}
         }
-        free = passed_free(marks[slot], free, slot, size);
         slot = next_slot(slot, size);
         n += 1;
     }

@@ -1,7 +1,7 @@
 -- `spans::look` meets its contract: each return is a mark, and for mark 1 a key.
 use native.Mathlib.Omega.{arith}
 use borrow.Author.Needs.{needs}
-use Rattle.spans.proofs.Sights.{sight-never, sight-bad, sight-freed, sight-within, sight-same, sight-on}
+use Rattle.spans.proofs.Sights.{sight-never, sight-bad, sight-freed, sight-within, sight-same, sight-other}
 use Rattle.spans.proofs.look.Statement.{statement}
 use Rattle.spans.proofs.look.Tie as tie
 
@@ -42,7 +42,7 @@ returns-4 : tie.Need-returns-4
 returns-4 c = sight-same _ _ _ (c .before .before .before .before .before .before .before .before .mark-at .ensures) (c .before .before .before .before .before .before .before .if1 .left) (c .before .before .before .before .before .before .if2 .left) (c .before .before .before .before .before .if3 .left) (c .before .before .before .before .offset-at .ensures) (c .before .before .before .end-at .ensures) (c .before .same-bytes .ensures) (c .if4 .taken)
 
 returns-5 : tie.Need-returns-5
-returns-5 c = sight-on _ _ _ (c .before .before .before .before .before .before .before .before .mark-at .ensures) (c .before .before .before .before .before .before .before .if1 .left) (c .before .before .before .before .before .before .if2 .left) (c .before .before .before .before .before .if3 .left) (c .before .before .before .before .offset-at .ensures) (c .before .before .before .end-at .ensures) (c .before .same-bytes .ensures) (c .if4 .left)
+returns-5 c = sight-other _ _ _ (c .before .before .before .before .before .before .before .before .mark-at .ensures) (c .before .before .before .before .before .before .before .if1 .left) (c .before .before .before .before .before .before .if2 .left) (c .before .before .before .before .before .if3 .left) (c .before .before .before .before .offset-at .ensures) (c .before .before .before .end-at .ensures) (c .before .same-bytes .ensures) (c .if4 .left)
 
 pub look-spec : {M : Type 1} → statement M
 look-spec =
