@@ -248,7 +248,8 @@ moss_answer plain_byte_map_get(const uint8_t *marks, size_t marks_count, const u
     const uint8_t *lengths, size_t lengths_count, const uint64_t *values, size_t values_count, const uint8_t *arena, size_t arena_count,
     const uint8_t *key, size_t key_length)
 {
-    struct bytes t = {(uint8_t *)marks, (uint16_t *)offsets, (uint8_t *)lengths, (uint64_t *)values, (uint8_t *)arena, marks_count, arena_count};
+    struct bytes t = {(uint8_t *)marks, (uint16_t *)offsets, (uint8_t *)lengths, (uint64_t *)values, (uint8_t *)arena,
+        marks_count, arena_count};
     if (!byte_sized(marks_count, offsets_count, lengths_count, values_count, arena_count))
         return refused(MOSS_REFUSED_SIZES);
     if (key_length > KEY_LIMIT)

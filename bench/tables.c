@@ -121,7 +121,7 @@ static uint64_t int_get(size_t i)
     return maker->int_get(INTS(left), KEY(i).word).which;
 }
 
-/* An absent key goes in and out. Its slot is never used again afterwards, so that each pair meets the same table. */
+/* An absent key goes in and out. Its slot is then marked as never used, so that each pair meets the same table. */
 static uint64_t int_pair(size_t i)
 {
     uint64_t told = maker->int_insert(INTS(left), KEY(i).word, i).which;
@@ -133,7 +133,8 @@ static uint64_t int_pair(size_t i)
 /* A walk over all: a step for each key. */
 static uint64_t int_walk(size_t i)
 {
-    moss_answer answer = {.walk = i & 0};
+    (void)i;
+    moss_answer answer = {.walk = 0};
     for (size_t steps = 0; steps < live; steps++)
         answer = maker->int_step(INTS(left), answer.walk, left.slots);
     return answer.which;
