@@ -1,6 +1,6 @@
 // Integer slots: sizes, the look at a slot, the probing loop, the scan, and the next live slot. Maps and sets share them.
 ghost use mathlib.Core.Path.{_≡_};
-ghost use Prim.Native.Nat.{_<_};
+ghost use Prim.Native.Nat.{_<_, _≤_};
 ghost use lib.ListN.{length};
 ghost use Rattle.model.specs.Path.{find};
 ghost use Rattle.kinds.specs.Probing.{lookOf, along};
@@ -105,15 +105,13 @@ pub fn scan(marks: &[u8]) -> Scanned
     Scanned::Live(live)
 }
 
-// The first live or damaged slot from `at` on, before `end`; beyond the marks there is none.
+// The first live or damaged slot from `at` on, before `end`.
 pub fn next_live(marks: &[u8], at: usize, end: usize) -> Next
+    requires { ⌜ end ≤ length (now marks) ⌝ }
     ensures { λ r. ⌜ r ≡ nexting (now (marks .entry)) at end ⌝ }
 {
     let mut i = at;
     while i < end {
-        if marks.len() <= i {
-            return Next::Nothing;
-        }
         let here = marks[i];
         if here == 1 {
             return Next::Live(i);
