@@ -42,6 +42,11 @@ module _ (w e : ℕ) where
   paced-injective z f (Refused r) Done q = let z′ : ⊥ = omega (arith, ap (λ n. n .case) q) in absurd z′
   paced-injective z f (Refused r) (Refused s) q = ap Refused (numberOf-injective r s (ap (λ n. n .refusal) q))
 
+-- a step's numbers tell its walk
+pub walk-of : (s : Step) → stepNumbers s .walk ≡ s .walk .at
+unfolding stepNumbers
+walk-of s = walk-told (s .walk .at) (s .examined) (s .out)
+
 pub stepNumbers-injective : (a b : Step) → stepNumbers a ≡ stepNumbers b → a ≡ b
 unfolding stepNumbers
 stepNumbers-injective a b q =
