@@ -8,6 +8,7 @@ use Rattle.kinds.specs.Calls.{makeOf, capacityOf, lenOf, isEmptyOf, reserveOf, 
 use Rattle.kinds.specs.Columns.{nothing}
 use Rattle.kinds.specs.Told.{Settled, SettledWith}
 use Rattle.kinds.proofs.Settled.{settled, settled-with}
+use Rattle.lent.specs.Moved.{movedOn}
 use Rattle.spans.specs.Memory.{Strings}
 use Rattle.spans.specs.Kinds.{sets, joinOf, spanOf, setStepOf}
 use Rattle.byte_set.specs.declared.Walk.{Walk}
@@ -62,6 +63,10 @@ module _ (m : Strings nothing) where
   -- `Walk::step`.
   pub step-settled : (at budget : ℕ) → Settled stepNumbers (setStepOf m at budget)
   step-settled at budget = settled stepNumbers-injective
+
+  -- `Walk::step_on`.
+  pub step-on-settled : (at budget : ℕ) → SettledWith stepNumbers (movedOn (setStepOf m at budget))
+  step-on-settled at budget = settled-with stepNumbers-injective
 
 -- `Walk::start`.
 pub start-settled : (r s : Walk) → r .at ≡ 0 → s .at ≡ 0 → r ≡ s

@@ -6,6 +6,7 @@ ghost use Rattle.model.specs.Walk.{reachOf};
 ghost use Rattle.answers.specs.Numbers.{outcomeNumbers, countedNumbers, emptinessNumbers, reservedNumbers, spannedNumbers, containedNumbers, joinedNumbers, droppedNumbers};
 ghost use Rattle.kinds.specs.Calls.{makeOf, capacityOf, lenOf, isEmptyOf, reserveOf, containsOf, copyOf, droppedOf};
 ghost use Rattle.kinds.specs.Told.{told};
+ghost use Rattle.lent.specs.Moved.{movedOn};
 ghost use Rattle.spans.specs.Kinds.{sets, setMemory, joinOf, spanOf, setPaceOf, setStepOf};
 ghost use Rattle.byte_set.specs.Numbers.{refusedNumbers, stepNumbers};
 use answers::Contained;
@@ -321,5 +322,21 @@ impl Walk {
             return pace(marks, offsets, lengths, arena, at, slots);
         }
         refused(at, Refusal::Sizes)
+    }
+
+    // One step of a lent walk, which moves on in its place.
+    pub fn step_on(
+        &mut self,
+        marks: &[u8],
+        offsets: &[u16],
+        lengths: &[u8],
+        arena: &[u8],
+        budget: u64,
+    ) -> Step
+        ensures { λ r. ⌜ told (stepNumbers r) (now (self .exit) .at) ≡ movedOn (setStepOf (setMemory (now (marks .entry)) (now (offsets .entry)) (now (lengths .entry)) (now (arena .entry))) (now (self .entry) .at) budget) ⌝ }
+    {
+        let r = self.step(marks, offsets, lengths, arena, budget);
+        *self = r.walk;
+        r
     }
 }

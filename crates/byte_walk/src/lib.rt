@@ -3,6 +3,8 @@ ghost use mathlib.Core.Path.{_≡_};
 ghost use Prim.Native.Nat.{_+_, _≤_};
 ghost use lib.ListN.{length};
 ghost use Rattle.model.specs.Walk.{reachOf};
+ghost use Rattle.kinds.specs.Told.{told};
+ghost use Rattle.lent.specs.Moved.{movedOn};
 ghost use Rattle.spans.specs.Kinds.{mapMemory, paceOf, stepOf};
 ghost use Rattle.byte_walk.specs.Numbers.{refusedNumbers, stepNumbers};
 use answers::Refusal;
@@ -126,5 +128,22 @@ impl Walk {
             return pace(marks, offsets, lengths, values, arena, at, slots);
         }
         refused(at, Refusal::Sizes)
+    }
+
+    // One step of a lent walk, which moves on in its place.
+    pub fn step_on(
+        &mut self,
+        marks: &[u8],
+        offsets: &[u16],
+        lengths: &[u8],
+        values: &[u64],
+        arena: &[u8],
+        budget: u64,
+    ) -> Step
+        ensures { λ r. ⌜ told (stepNumbers r) (now (self .exit) .at) ≡ movedOn (stepOf (mapMemory (now (marks .entry)) (now (offsets .entry)) (now (lengths .entry)) (now (values .entry)) (now (arena .entry))) (now (self .entry) .at) budget) ⌝ }
+    {
+        let r = self.step(marks, offsets, lengths, values, arena, budget);
+        *self = r.walk;
+        r
     }
 }

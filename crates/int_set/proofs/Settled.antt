@@ -6,6 +6,7 @@ use Rattle.answers.proofs.Equal.{outcomeNumbers-injective, countedNumbers-injec
 use Rattle.kinds.specs.Columns.{nothing}
 use Rattle.kinds.specs.Told.{Settled, SettledWith}
 use Rattle.kinds.proofs.Settled.{settled, settled-with}
+use Rattle.lent.specs.Moved.{movedOn}
 use Rattle.ints.specs.Memory.{Cells}
 use Rattle.int_set.specs.declared.Walk.{Walk}
 use Rattle.int_set.specs.Numbers.{stepNumbers}
@@ -60,6 +61,10 @@ module _ (m : Cells nothing) where
   -- `Walk::step`.
   pub step-settled : (at budget : ℕ) → Settled stepNumbers (stepOf m at budget)
   step-settled at budget = settled stepNumbers-injective
+
+  -- `Walk::step_on`.
+  pub step-on-settled : (at budget : ℕ) → SettledWith stepNumbers (movedOn (stepOf m at budget))
+  step-on-settled at budget = settled-with stepNumbers-injective
 
 -- `Walk::start`.
 pub start-settled : (r s : Walk) → r .at ≡ 0 → s .at ≡ 0 → r ≡ s

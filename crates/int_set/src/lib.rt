@@ -8,6 +8,7 @@ ghost use Rattle.answers.specs.Refusals.{numberOf};
 ghost use Rattle.answers.specs.Numbers.{outcomeNumbers, countedNumbers, emptinessNumbers, reservedNumbers, memberNumbers, containedNumbers, addedNumbers, droppedNumbers};
 ghost use Rattle.int_set.specs.Memory.{memory};
 ghost use Rattle.kinds.specs.Told.{told};
+ghost use Rattle.lent.specs.Moved.{movedOn};
 ghost use Rattle.answers.specs.Said.{keyHanded, stepSaid};
 ghost use Rattle.int_set.specs.Numbers.{stepNumbers};
 ghost use Rattle.int_set.specs.Calls.{makeOf, capacityOf, lenOf, isEmptyOf, reserveOf, getOf, containsOf, insertOf, removeOf, copyOf, paceOf, stepOf};
@@ -272,5 +273,14 @@ impl Walk {
             return pace(marks, keys, at, reach(marks.len(), at, budget));
         }
         refused(at, Refusal::Sizes)
+    }
+
+    // One step of a lent walk, which moves on in its place.
+    pub fn step_on(&mut self, marks: &[u8], keys: &[u64], budget: u64) -> Step
+        ensures { λ r. ⌜ told (stepNumbers r) (now (self .exit) .at) ≡ movedOn (stepOf (memory (now (marks .entry)) (now (keys .entry))) (now (self .entry) .at) budget) ⌝ }
+    {
+        let r = self.step(marks, keys, budget);
+        *self = r.walk;
+        r
     }
 }

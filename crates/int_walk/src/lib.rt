@@ -6,6 +6,8 @@ ghost use Rattle.model.specs.Calls.{no};
 ghost use Rattle.model.specs.Walk.{reachOf};
 ghost use Rattle.answers.specs.Refusals.{numberOf};
 ghost use Rattle.answers.specs.Said.{pairHanded, stepSaid};
+ghost use Rattle.kinds.specs.Told.{told};
+ghost use Rattle.lent.specs.Moved.{movedOn};
 ghost use Rattle.ints.specs.Memory.{memory};
 ghost use Rattle.int_walk.specs.Calls.{paceOf, stepOf};
 ghost use Rattle.int_walk.specs.Numbers.{stepNumbers};
@@ -105,5 +107,14 @@ impl Walk {
             return pace(marks, keys, values, at, reach(marks.len(), at, budget));
         }
         refused(at, Refusal::Sizes)
+    }
+
+    // One step of a lent walk, which moves on in its place.
+    pub fn step_on(&mut self, marks: &[u8], keys: &[u64], values: &[u64], budget: u64) -> Step
+        ensures { λ r. ⌜ told (stepNumbers r) (now (self .exit) .at) ≡ movedOn (stepOf (memory (now (marks .entry)) (now (keys .entry)) (now (values .entry))) (now (self .entry) .at) budget) ⌝ }
+    {
+        let r = self.step(marks, keys, values, budget);
+        *self = r.walk;
+        r
     }
 }

@@ -4,7 +4,7 @@ use mathlib.Core.Bool.{true, false}
 use mathlib.Core.List.{List}
 use mathlib.Core.Logic.{inl}
 use mathlib.Core.Option.{none}
-use mathlib.Core.Path.{_≡_, refl, sym, _∙_}
+use mathlib.Core.Path.{_≡_, refl, sym, _∙_, ap}
 use lib.Dec.{eqb}
 use Rattle.model.specs.Calls.{need}
 use Rattle.model.specs.Machine.{fine, number, truth, seen, spot, value, paced, tells, leaves, answer, left, stepping, World}
@@ -14,10 +14,13 @@ use Rattle.model.specs.Demand2.{InStep}
 use Rattle.model.specs.Demand3.{Walked, stepped}
 use Rattle.model.specs.Tables.{tables, AllSound}
 use Rattle.model.specs.Places.{names}
+use Rattle.model.specs.Walk.{movedBy}
 use Rattle.model.proofs.Tables.{walk-kept}
 use Rattle.answers.proofs.Said.{containedSaid-refusal, countSaid-refusal, doneSaid-refusal, emptySaid-refusal, enteredSaid-refusal, gotSaid-refusal, heldSaid-refusal, insertedSaid-refusal, removedSaid-refusal, roomSaid-refusal, standingSaid-refusal, stepSaid-refusal, swappedSaid-refusal, takenEntrySaid-refusal, takenSaid-refusal}
+use Rattle.answers.specs.declared.Numbers.{Numbers}
 use Rattle.kinds.specs.Columns.{values}
 use Rattle.kinds.specs.Published.{Linked, meantAll}
+use Rattle.kinds.specs.Told.{told}
 use Rattle.kinds.proofs.Columns.{values-orderly}
 use Rattle.kinds.proofs.Published.{reported, lowest-told, refused-same, named-only, run-in-step}
 use Rattle.ints.specs.Places.{Place, wordIn, places}
@@ -30,6 +33,8 @@ use Rattle.int_union.specs.Calls.{unionOf}
 use Rattle.int_walk.specs.Calls.{stepOf}
 use Rattle.int_entry.specs.Calls.{entryOf, setOf, removeEntryOf, orInsertOf, insertEntryOf}
 use Rattle.int_entry.specs.Calls as entries
+use Rattle.lent.specs.Moved.{movedOn}
+use Rattle.lent.proofs.Moved.{moved-said}
 use Rattle.promises.specs.IntMap.{Call, make, clear, capacity, len, is-empty, reserve, get, contains-key, remove, entry, copy, union-prefer-right, insert, occupied-get, occupied-remove, occupied-remove-entry, step, occupied-set, vacant-insert, or-insert, insert-entry, told-by, meant, published}
 
 -- Integer maps are a lawful store.
@@ -114,3 +119,8 @@ demand-3 x S w f = walk-kept maps maps-lawful x S w f
 pub demand-3-steps : (x S : ℕ) (w : World maps) → AllSound maps maps-lawful x S w → (at budget : ℕ) → stepping maps (w x) at budget ≡ stepped (tables maps x S) w tt at budget
 unfolding stepping stepped need
 demand-3-steps x S w f at budget = rw (f .healthy x .sized, f .sized)
+
+-- A lent step tells what `step` answers, and leaves the walk where demand 3 has it after that step.
+pub demand-3-lent : (x S : ℕ) (w : World maps) → AllSound maps maps-lawful x S w → (at budget : ℕ) (n : Numbers) (l : ℕ) → told n l ≡ movedOn (stepOf (w x) at budget) → (n ≡ stepOf (w x) at budget) × (l ≡ movedBy at (stepped (tables maps x S) w tt at budget))
+unfolding stepOf
+demand-3-lent x S w f at budget n l e = let (p, q) = moved-said pairHanded (λ k v y d. refl) at (stepping maps (w x) at budget) e in (p, q ∙ ap (movedBy at) (demand-3-steps x S w f at budget))

@@ -1,0 +1,3 @@
+-- What the proofs of lent walks share.
+pub mod Moved
+pub mod Walks

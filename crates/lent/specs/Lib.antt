@@ -1,0 +1,2 @@
+-- The definition of a lent walk's step.
+pub mod Moved
