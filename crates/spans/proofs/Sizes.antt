@@ -16,9 +16,10 @@ use Rattle.kinds.specs.declared.Probed.the-variants.{Refused}
 use Rattle.spans.specs.Memory.{Spans, fitting, arenaLimit, askedOf, keptOf}
 use Rattle.spans.specs.Probing.{pathFrom, pathOf, probing}
 
--- Marks, offsets and lengths of one length that is not 0, and an arena within its limit.
+-- Marks, offsets and lengths of one length that is not 0 and within its limit, and an arena within its own.
 pub record Sized (s : Spans) : Type 0 where
   pub some : 0 < length (s .marks)
+  pub few : length (s .marks) ≤ 4096
   pub offsets : length (s .offsets) ≡ length (s .marks)
   pub lengths : length (s .lengths) ≡ length (s .marks)
   pub arena : length (s .arena) ≤ 32768
@@ -33,6 +34,7 @@ module _ (s : Spans) where
       let (h, k) = both (ltb 0 (length (s .marks))) (leb (length (s .marks)) 4096) a in
       record {
         some = ltb-true 0 (length (s .marks)) h;
+        few = leb-true (length (s .marks)) 4096 k;
         offsets = sym (eqb-true (length (s .marks)) (length (s .offsets)) c);
         lengths = sym (eqb-true (length (s .marks)) (length (s .lengths)) e);
         arena = leb-true (length (s .arena)) arenaLimit g;
