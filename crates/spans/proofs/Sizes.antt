@@ -68,9 +68,9 @@ kept-test k = asked-test k
 
 -- the probing, by the tests of sizes and key
 module _ (s : Spans) (k : List ℕ) {b : Bool} (p : b ≡ fitting s) where
-  -- where sizes fit, a key's home slot is one of the table's
-  pub home-fits : {h : ℕ} → b ≡ true → h ≡ homeOf 0 (length (s .marks)) k → h < length (s .marks)
-  home-fits q e = rw e (home-below 0 (length (s .marks)) k (fitting-says s (sym p ∙ q) .some))
+  -- where sizes fit, a key's home slot is one of the table's, and each slot has an offset and a length
+  pub home-fits : {h : ℕ} → b ≡ true → h ≡ homeOf 0 (length (s .marks)) k → (h < length (s .marks)) × (length (s .offsets) ≡ length (s .marks)) × (length (s .lengths) ≡ length (s .marks))
+  home-fits q e = let z = fitting-says s (sym p ∙ q) in (rw e (home-below 0 (length (s .marks)) k (z .some)), z .offsets, z .lengths)
 
   pub probing-unfit : b ≡ false → Refused Sizes ≡ probing s k
   unfolding probing

@@ -158,24 +158,28 @@ pub fn look(
     slot: usize,
     key: &[u8],
 ) -> Sight
+    requires { ⌜ (slot < length (now marks)) × (length (now offsets) ≡ length (now marks)) × (length (now lengths) ≡ length (now marks)) ⌝ }
     ensures { λ r. ⌜ r ≡ sightAt (spansOf (now (marks .entry)) (now (offsets .entry)) (now (lengths .entry)) (now (arena .entry))) (now (key .entry)) slot ⌝ }
 {
-    let mark = mark_at(marks, offsets, lengths, arena, slot);
+    let mark = marks[slot];
+    if mark == 1 {
+        let start = offsets[slot] as usize;
+        let end = start + (lengths[slot] as usize);
+        if arena.len() < end {
+            return Sight::Bad;
+        }
+        if same_bytes(&arena[start..end], key) {
+            return Sight::Same;
+        }
+        return Sight::Other;
+    }
     if mark == 0 {
         return Sight::Never;
-    }
-    if 2 < mark {
-        return Sight::Bad;
     }
     if mark == 2 {
         return Sight::Freed;
     }
-    let start = offset_at(offsets, slot) as usize;
-    let end = end_at(offsets, lengths, slot);
-    if same_bytes(&arena[start..end], key) {
-        return Sight::Same;
-    }
-    Sight::Other
+    Sight::Bad
 }
 
 // The path of a key from its home slot, slot by slot: each break is an answer.
@@ -187,7 +191,7 @@ fn walk_path(
     key: &[u8],
     home: usize,
 ) -> Probed
-    requires { ⌜ home < length (now marks) ⌝ }
+    requires { ⌜ (home < length (now marks)) × (length (now offsets) ≡ length (now marks)) × (length (now lengths) ≡ length (now marks)) ⌝ }
     ensures { λ r. ⌜ r ≡ pathFrom (spansOf (now (marks .entry)) (now (offsets .entry)) (now (lengths .entry)) (now (arena .entry))) home (now (key .entry)) ⌝ }
 {
     let size = marks.len();

@@ -18,7 +18,7 @@ enum-known-found : tie.Need-enum-known-found
 enum-known-found c = search needs
 
 grip-requires : tie.Need-grip-requires
-grip-requires c κs = same-long _ (c .before .before .before .before .before .before .before .map-fits .ensures) (c .before .before .before .before .before .before .if1 .taken) .2
+grip-requires c κs = same-long _ (c .before .before .before .before .before .before .before .map-fits .ensures) (c .before .before .before .before .before .before .if1 .taken)
 
 pulled-by-requires : tie.Need-pulled-by-requires
 pulled-by-requires c κs = search needs
