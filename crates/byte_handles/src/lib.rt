@@ -81,7 +81,7 @@ fn grip(
     slot: usize,
     key: &[u8],
 ) -> Held
-    requires { ⌜ length (now values) ≡ length (now marks) ⌝ }
+    requires { ⌜ (length (now offsets) ≡ length (now marks)) × (length (now lengths) ≡ length (now marks)) × (length (now values) ≡ length (now marks)) ⌝ }
     ensures { λ r. ⌜ r ≡ gripping (mapMemory (now (marks .entry)) (now (offsets .entry)) (now (lengths .entry)) (now (values .entry)) (now (arena .entry))) slot (now (key .entry)) ⌝ }
 {
     if slot < marks.len() {

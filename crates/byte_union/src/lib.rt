@@ -130,7 +130,7 @@ fn room(
     right_lengths: &[u8],
     right_arena: &[u8],
 ) -> Planned
-    requires { ⌜ (fitting (spansOf (now marks) (now offsets) (now lengths) (now arena)) ≡ true) × (length (now «right_marks») ≤ 4096) ⌝ }
+    requires { ⌜ (fitting (spansOf (now marks) (now offsets) (now lengths) (now arena)) ≡ true) × (fitting (spansOf (now «right_marks») (now «right_offsets») (now «right_lengths») (now «right_arena»)) ≡ true) ⌝ }
     ensures { λ r. ⌜ planned r ≡ roomOf (spansOf (now (marks .entry)) (now (offsets .entry)) (now (lengths .entry)) (now (arena .entry))) (spansOf (now («right_marks» .entry)) (now («right_offsets» .entry)) (now («right_lengths» .entry)) (now («right_arena» .entry))) ⌝ }
 {
     let found = survey(marks, offsets, lengths, arena);

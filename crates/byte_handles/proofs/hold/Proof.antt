@@ -12,7 +12,7 @@ may-ask-requires : tie.Need-may-ask-requires
 may-ask-requires c κs = search needs
 
 grip-requires : tie.Need-grip-requires
-grip-requires c κs = same-long _ (c .before .before .before .map-fits .ensures) (c .before .before .if1 .taken) .2
+grip-requires c κs = same-long _ (c .before .before .before .map-fits .ensures) (c .before .before .if1 .taken)
 
 returns : tie.Need-returns
 returns c = holding-grip _ _ _ (c .before .before .before .before .map-fits .ensures) (c .before .before .before .if1 .taken) (c .before .before .may-ask .ensures) (c .before .if2 .taken) (c .grip .ensures)

@@ -1,5 +1,5 @@
 -- `byte_handles::pull` meets its contract: sizes, then the key, then every slot, then the handle's.
-use Rattle.byte_map.proofs.Laws.{same-long}
+use Rattle.byte_map.proofs.Laws.{sized-fits, same-long}
 use Rattle.byte_handles.proofs.Pulls.{pulling-unfit, pulling-long, pulling-bad, pulling-grip}
 use borrow.Author.Needs.{needs}
 use Rattle.byte_handles.proofs.pull.Statement.{statement}
@@ -12,13 +12,13 @@ may-ask-requires : tie.Need-may-ask-requires
 may-ask-requires c κs = search needs
 
 survey-requires : tie.Need-survey-requires
-survey-requires c κs = search needs
+survey-requires c κs = sized-fits _ (c .before .before .before .map-fits .ensures) (c .before .before .if1 .taken)
 
 enum-known-found : tie.Need-enum-known-found
 enum-known-found c = search needs
 
 grip-requires : tie.Need-grip-requires
-grip-requires c κs = same-long _ (c .before .before .before .before .before .before .before .map-fits .ensures) (c .before .before .before .before .before .before .if1 .taken) .2
+grip-requires c κs = same-long _ (c .before .before .before .before .before .before .before .map-fits .ensures) (c .before .before .before .before .before .before .if1 .taken)
 
 pulled-by-requires : tie.Need-pulled-by-requires
 pulled-by-requires c κs = search needs

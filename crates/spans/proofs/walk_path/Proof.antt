@@ -20,7 +20,7 @@ abbrev μ-loop : tie.MeasureT-loop
 
 loop-holds : tie.Need-loop-holds Inv-loop μ-loop
 unfolding pathFrom
-loop-holds c = at-home byteKeys _ _ _ _ _ (c .before .before .before .before .before .pre)
+loop-holds c = at-home byteKeys _ _ _ _ _ (c .before .before .before .before .before .pre .0)
 
 ended-at-requires : tie.Need-ended-at-requires Inv-loop μ-loop
 ended-at-requires c κs = search needs
