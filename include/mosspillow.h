@@ -170,6 +170,11 @@ uint64_t moss_int_map_walk_start(void);
 moss_answer moss_int_map_step(const uint8_t *MOSS_RESTRICT marks, size_t marks_count, const uint64_t *MOSS_RESTRICT keys, size_t keys_count,
     const uint64_t *MOSS_RESTRICT values, size_t values_count, uint64_t walk, uint64_t budget);
 
+/* The same step of a lent walk, which moves on in its place: afterwards it is the answer's walk. `walk` may not be NULL, nor lie in
+ * a lent array. */
+moss_answer moss_int_map_walk_on(const uint8_t *MOSS_RESTRICT marks, size_t marks_count, const uint64_t *MOSS_RESTRICT keys, size_t keys_count,
+    const uint64_t *MOSS_RESTRICT values, size_t values_count, uint64_t *MOSS_RESTRICT walk, uint64_t budget);
+
 /* The integer set: marks and u64 keys. */
 
 /* Makes an empty set of the lent arrays: every mark and word becomes 0. MOSS_DONE. Refuses 1. */
@@ -216,6 +221,11 @@ uint64_t moss_int_set_walk_start(void);
  * examined, or MOSS_WALK_DONE with walk. Refuses 1, 3, 4, 5, with the walk as it came. */
 moss_answer moss_int_set_step(const uint8_t *MOSS_RESTRICT marks, size_t marks_count, const uint64_t *MOSS_RESTRICT keys, size_t keys_count,
     uint64_t walk, uint64_t budget);
+
+/* The same step of a lent walk, which moves on in its place: afterwards it is the answer's walk. `walk` may not be NULL, nor lie in
+ * a lent array. */
+moss_answer moss_int_set_walk_on(const uint8_t *MOSS_RESTRICT marks, size_t marks_count, const uint64_t *MOSS_RESTRICT keys, size_t keys_count,
+    uint64_t *MOSS_RESTRICT walk, uint64_t budget);
 
 /* The byte map: marks, u64 values, and for each slot the offset (u16) and the length (u8) of its key in the arena, of at most
  * 32768 bytes. A key is lent as a pointer and a length, so it may not lie in the arena. Handles are as in the integer map. */
@@ -345,6 +355,12 @@ moss_answer moss_byte_map_step(const uint8_t *MOSS_RESTRICT marks, size_t marks_
     const uint8_t *MOSS_RESTRICT lengths, size_t lengths_count, const uint64_t *MOSS_RESTRICT values, size_t values_count,
     const uint8_t *MOSS_RESTRICT arena, size_t arena_count, uint64_t walk, uint64_t budget);
 
+/* The same step of a lent walk, which moves on in its place: afterwards it is the answer's walk. `walk` may not be NULL, nor lie in
+ * a lent array. */
+moss_answer moss_byte_map_walk_on(const uint8_t *MOSS_RESTRICT marks, size_t marks_count, const uint16_t *MOSS_RESTRICT offsets,
+    size_t offsets_count, const uint8_t *MOSS_RESTRICT lengths, size_t lengths_count, const uint64_t *MOSS_RESTRICT values, size_t values_count,
+    const uint8_t *MOSS_RESTRICT arena, size_t arena_count, uint64_t *MOSS_RESTRICT walk, uint64_t budget);
+
 /* The byte set: the same without values. */
 
 /* Makes an empty set of the lent arrays: every mark, word and arena byte becomes 0. MOSS_DONE. Refuses 1. */
@@ -410,6 +426,12 @@ uint64_t moss_byte_set_walk_start(void);
 moss_answer moss_byte_set_step(const uint8_t *MOSS_RESTRICT marks, size_t marks_count, const uint16_t *MOSS_RESTRICT offsets, size_t offsets_count,
     const uint8_t *MOSS_RESTRICT lengths, size_t lengths_count, const uint8_t *MOSS_RESTRICT arena, size_t arena_count, uint64_t walk,
     uint64_t budget);
+
+/* The same step of a lent walk, which moves on in its place: afterwards it is the answer's walk. `walk` may not be NULL, nor lie in
+ * a lent array. */
+moss_answer moss_byte_set_walk_on(const uint8_t *MOSS_RESTRICT marks, size_t marks_count, const uint16_t *MOSS_RESTRICT offsets,
+    size_t offsets_count, const uint8_t *MOSS_RESTRICT lengths, size_t lengths_count, const uint8_t *MOSS_RESTRICT arena, size_t arena_count,
+    uint64_t *MOSS_RESTRICT walk, uint64_t budget);
 
 /* Tables as structs.
  *
@@ -582,6 +604,11 @@ static inline moss_answer moss_im_step(const moss_int_map *t, uint64_t walk, uin
     return moss_int_map_step(MOSS_LENT_INT_MAP(t), walk, budget);
 }
 
+static inline moss_answer moss_im_walk_on(const moss_int_map *t, uint64_t *walk, uint64_t budget)
+{
+    return moss_int_map_walk_on(MOSS_LENT_INT_MAP(t), walk, budget);
+}
+
 static inline moss_answer moss_im_copy(const moss_int_map *t, const moss_int_map *from)
 {
     return moss_int_map_copy(MOSS_LENT_INT_MAP(t), MOSS_LENT_INT_MAP(from));
@@ -647,6 +674,11 @@ static inline moss_answer moss_is_remove(const moss_int_set *t, uint64_t key)
 static inline moss_answer moss_is_step(const moss_int_set *t, uint64_t walk, uint64_t budget)
 {
     return moss_int_set_step(MOSS_LENT_INT_SET(t), walk, budget);
+}
+
+static inline moss_answer moss_is_walk_on(const moss_int_set *t, uint64_t *walk, uint64_t budget)
+{
+    return moss_int_set_walk_on(MOSS_LENT_INT_SET(t), walk, budget);
 }
 
 static inline moss_answer moss_is_copy(const moss_int_set *t, const moss_int_set *from)
@@ -751,6 +783,11 @@ static inline moss_answer moss_bm_step(const moss_byte_map *t, uint64_t walk, ui
     return moss_byte_map_step(MOSS_LENT_BYTE_MAP(t), walk, budget);
 }
 
+static inline moss_answer moss_bm_walk_on(const moss_byte_map *t, uint64_t *walk, uint64_t budget)
+{
+    return moss_byte_map_walk_on(MOSS_LENT_BYTE_MAP(t), walk, budget);
+}
+
 static inline moss_answer moss_bm_copy(const moss_byte_map *t, const moss_byte_map *from)
 {
     return moss_byte_map_copy(MOSS_LENT_BYTE_MAP(t), MOSS_LENT_BYTE_MAP(from));
@@ -816,6 +853,11 @@ static inline moss_answer moss_bs_remove(const moss_byte_set *t, const uint8_t *
 static inline moss_answer moss_bs_step(const moss_byte_set *t, uint64_t walk, uint64_t budget)
 {
     return moss_byte_set_step(MOSS_LENT_BYTE_SET(t), walk, budget);
+}
+
+static inline moss_answer moss_bs_walk_on(const moss_byte_set *t, uint64_t *walk, uint64_t budget)
+{
+    return moss_byte_set_walk_on(MOSS_LENT_BYTE_SET(t), walk, budget);
 }
 
 static inline moss_answer moss_bs_copy(const moss_byte_set *t, const moss_byte_set *from)

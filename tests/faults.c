@@ -83,3 +83,16 @@ moss_answer __wrap_moss_int_map_clear(uint8_t *marks, size_t marks_count, uint64
         memset(marks - 1, 0, marks_count + 1);
     return a;
 }
+
+/* 8: a lent walk left where it was. */
+moss_answer __real_moss_byte_map_walk_on(const uint8_t *marks, size_t marks_count, const uint16_t *offsets, size_t offsets_count,
+    const uint8_t *lengths, size_t lengths_count, const uint64_t *values, size_t values_count, const uint8_t *arena, size_t arena_count,
+    uint64_t *walk, uint64_t budget);
+moss_answer __wrap_moss_byte_map_walk_on(const uint8_t *marks, size_t marks_count, const uint16_t *offsets, size_t offsets_count,
+    const uint8_t *lengths, size_t lengths_count, const uint64_t *values, size_t values_count, const uint8_t *arena, size_t arena_count,
+    uint64_t *walk, uint64_t budget)
+{
+    uint64_t copy = *walk;
+    return __real_moss_byte_map_walk_on(marks, marks_count, offsets, offsets_count, lengths, lengths_count, values, values_count, arena, arena_count,
+        FAULT == 8 ? &copy : walk, budget);
+}

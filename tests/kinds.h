@@ -31,7 +31,7 @@ struct table {
     struct array columns[MOST_COLUMNS];
 };
 
-/* The arguments of a call; a key is a word or lent bytes. */
+/* The arguments of a call; a key is a word or lent bytes, a walk a number or a lent one. */
 struct order {
     struct table *table;
     struct table *other;
@@ -42,14 +42,17 @@ struct order {
     uint64_t slot;
     uint64_t asked;
     uint64_t walk;
+    uint64_t *lent;
     uint64_t budget;
 };
 
 typedef moss_answer function(const struct order *order);
 
+/* The calls that a scenario file names, and after CALLS those that are made beside one of them. */
 enum call {
     MAKE, CLEAR, LEN, IS_EMPTY, CAPACITY, RESERVE, GET, CONTAINS, REMOVE, INSERT, ENTRY, OCCUPIED_GET, OCCUPIED_REMOVE, OCCUPIED_SET,
-    VACANT_INSERT, OR_INSERT, INSERT_ENTRY, STEP, UNION, COPY, CALLS
+    VACANT_INSERT, OR_INSERT, INSERT_ENTRY, STEP, UNION, COPY, CALLS,
+    WALK_ON = CALLS, REMOVE_ENTRY, FUNCTIONS
 };
 
 /* A kind of table: its columns, whether it has values, whether its keys are bytes, and its functions by call. */
@@ -59,8 +62,7 @@ struct kind {
     struct column column[MOST_COLUMNS];
     bool values;
     bool bytes;
-    function *functions[CALLS];
-    function *remove_entry;
+    function *functions[FUNCTIONS];
 };
 
 #define SMALL(t, c) (t)->columns[c].data, (t)->columns[c].count
@@ -88,6 +90,7 @@ struct kind {
     CALL(kind, get, T(o->table), KEY(o)) \
     CALL(kind, remove, T(o->table), KEY(o)) \
     CALL(kind, step, T(o->table), o->walk, o->budget) \
+    CALL(kind, walk_on, T(o->table), o->lent, o->budget) \
     CALL(kind, copy, T(o->table), T(o->other))
 
 #define SET_CALLS(kind, T, KEY) \
@@ -118,13 +121,13 @@ SET_CALLS(byte_set, BYTE_SET, BYTE_KEY)
 #define TABLE_FUNCTIONS(kind) \
     [MAKE] = kind##_make, [CLEAR] = kind##_clear, [LEN] = kind##_len, [IS_EMPTY] = kind##_is_empty, [CAPACITY] = kind##_capacity, \
     [RESERVE] = kind##_reserve, [GET] = kind##_get, [REMOVE] = kind##_remove, [INSERT] = kind##_insert, [STEP] = kind##_step, \
-    [COPY] = kind##_copy
-#define SET_FUNCTIONS(kind) {TABLE_FUNCTIONS(kind), [CONTAINS] = kind##_contains}, NULL
+    [COPY] = kind##_copy, [WALK_ON] = kind##_walk_on
+#define SET_FUNCTIONS(kind) {TABLE_FUNCTIONS(kind), [CONTAINS] = kind##_contains}
 #define MAP_FUNCTIONS(kind) \
     {TABLE_FUNCTIONS(kind), [CONTAINS] = kind##_contains_key, [ENTRY] = kind##_entry, [OCCUPIED_GET] = kind##_occupied_get, \
         [OCCUPIED_REMOVE] = kind##_occupied_remove, [OCCUPIED_SET] = kind##_occupied_set, [VACANT_INSERT] = kind##_vacant_insert, \
-        [OR_INSERT] = kind##_or_insert, [INSERT_ENTRY] = kind##_insert_entry, [UNION] = kind##_union_prefer_right}, \
-    kind##_occupied_remove_entry
+        [OR_INSERT] = kind##_or_insert, [INSERT_ENTRY] = kind##_insert_entry, [UNION] = kind##_union_prefer_right, \
+        [REMOVE_ENTRY] = kind##_occupied_remove_entry}
 
 static const struct kind kinds[] = {
     {"intmap", 3, {{"marks", 1, 1}, {"keys", 8, 8}, {"values", 8, 8}}, true, false, MAP_FUNCTIONS(int_map)},

@@ -595,7 +595,18 @@ static void compare_remove_entry(const struct kind *kind, const struct order *o,
 {
     moss_answer due = *a;
     due.key = a->refusal == 0 ? o->key : 0;
-    compare(kind, o, kind->remove_entry, copy, &due, o->table, "remove_entry");
+    compare(kind, o, kind->functions[REMOVE_ENTRY], copy, &due, o->table, "remove_entry");
+}
+
+/* Beside a step: the lent walk's step answers the same and leaves the same memory, and the walk is the answer's. */
+static void compare_walk_on(const struct kind *kind, const struct order *o, struct table *copy, const moss_answer *a)
+{
+    uint64_t walk = o->walk;
+    struct order lending = *o;
+    lending.lent = &walk;
+    compare(kind, &lending, kind->functions[WALK_ON], copy, a, o->table, "walk_on");
+    if (walk != a->walk)
+        stop(WRONG, "the walk of walk_on");
 }
 
 /* Beside or_insert and insert_entry: a case that is neither occupied nor vacant is a vacant handle of slot S. */
@@ -630,6 +641,8 @@ static void play(const struct kind *kind, struct table tables[2], bool memory)
     test_margin(&o.bytes, "the key");
     if (call == OCCUPIED_REMOVE)
         compare_remove_entry(kind, &o, &copy, &a);
+    if (call == STEP)
+        compare_walk_on(kind, &o, &copy, &a);
     if (call == OR_INSERT || call == INSERT_ENTRY)
         compare_neither(kind, &o, kind->functions[call], &copy);
     take_back(kind, &copy);

@@ -24,10 +24,7 @@ MAP_CALLS(bm, BM, BYTE_KEY)
 SET_CALLS(bs, BS, BYTE_KEY)
 
 /* In the order of `kinds`. */
-static const struct {
-    function *functions[CALLS];
-    function *remove_entry;
-} structs[] = {{MAP_FUNCTIONS(im)}, {SET_FUNCTIONS(is)}, {MAP_FUNCTIONS(bm)}, {SET_FUNCTIONS(bs)}};
+static function *const structs[][FUNCTIONS] = {MAP_FUNCTIONS(im), SET_FUNCTIONS(is), MAP_FUNCTIONS(bm), SET_FUNCTIONS(bs)};
 
 /* Tables of storage that the header's macros declare; an arena may have no bytes. */
 MOSS_INT_MAP(int_map, 4);
@@ -76,28 +73,29 @@ static int wrong(const struct kind *kind, enum call call)
     return 1;
 }
 
-/* Gives the orders to both; CALLS stands for remove_entry. */
+/* Gives the orders to both, each with a walk to lend. */
 static int compare(size_t k)
 {
     const struct kind *kind = &kinds[k];
     struct table tables[4] = {empty(kind), empty(kind), empty(kind), empty(kind)};
-    unsigned long accepted[CALLS + 1] = {0};
+    unsigned long accepted[FUNCTIONS] = {0};
     for (int i = 0; i < ORDERS; i++) {
-        enum call call = (enum call)below(CALLS + 1);
-        function *by_arrays = call == CALLS ? kind->remove_entry : kind->functions[call];
-        function *by_struct = call == CALLS ? structs[k].remove_entry : structs[k].functions[call];
+        enum call call = (enum call)below(FUNCTIONS);
+        function *by_arrays = kind->functions[call], *by_struct = structs[k][call];
         if (by_arrays == NULL || (call <= CLEAR && below(10) != 0))
             continue;
         struct order o = some_order(), p = o;
         size_t on = below(2);
+        uint64_t walks[2] = {o.walk, o.walk};
+        o.lent = &walks[0], p.lent = &walks[1];
         o.table = &tables[on], o.other = &tables[1 - on], p.table = &tables[2 + on], p.other = &tables[3 - on];
         moss_answer a = by_arrays(&o), b = by_struct(&p);
-        if (memcmp(&a, &b, sizeof a) != 0 || !equal(kind, &tables[0], &tables[2]) || !equal(kind, &tables[1], &tables[3]))
+        if (memcmp(&a, &b, sizeof a) != 0 || walks[0] != walks[1] || !equal(kind, &tables[0], &tables[2]) || !equal(kind, &tables[1], &tables[3]))
             return wrong(kind, call);
         accepted[call] += a.refusal == 0;
     }
-    for (enum call call = 0; call <= CALLS; call++)
-        if ((call == CALLS ? kind->remove_entry : kind->functions[call]) != NULL && accepted[call] == 0)
+    for (enum call call = 0; call < FUNCTIONS; call++)
+        if (kind->functions[call] != NULL && accepted[call] == 0)
             return wrong(kind, call);
     return 0;
 }

@@ -1,6 +1,7 @@
 // The byte map for C: each call as byte_map, byte_copy, byte_union and byte_walk have it, its answer as numbers.
 ghost use mathlib.Core.Path.{_≡_};
 ghost use Rattle.kinds.specs.Told.{told};
+ghost use Rattle.lent.specs.Moved.{movedOn};
 ghost use Rattle.kinds.specs.Calls.{makeOf, capacityOf, lenOf, isEmptyOf, reserveOf, getOf, containsOf, removeOf, copyOf, unionOf};
 ghost use Rattle.spans.specs.Kinds.{maps, mapMemory, insertOf, stepOf};
 use answers::Numbers;
@@ -244,4 +245,22 @@ pub extern "C" fn moss_byte_map_step(
 {
     let from = Walk { at: walk as usize };
     step_numbers(from.step(marks, offsets, lengths, values, arena, budget))
+}
+
+// One step of a lent walk, which moves on in its place.
+#[no_mangle]
+pub extern "C" fn moss_byte_map_walk_on(
+    marks: &[u8],
+    offsets: &[u16],
+    lengths: &[u8],
+    values: &[u64],
+    arena: &[u8],
+    walk: &mut u64,
+    budget: u64,
+) -> Numbers
+    ensures { λ r. ⌜ told r (now (walk .exit)) ≡ movedOn (stepOf (mapMemory (now (marks .entry)) (now (offsets .entry)) (now (lengths .entry)) (now (values .entry)) (now (arena .entry))) (now (walk .entry)) budget) ⌝ }
+{
+    let r = moss_byte_map_step(marks, offsets, lengths, values, arena, *walk, budget);
+    *walk = r.walk;
+    r
 }

@@ -1,6 +1,7 @@
 // The byte set for C: each call as byte_set has it, its answer as numbers.
 ghost use mathlib.Core.Path.{_≡_};
 ghost use Rattle.kinds.specs.Told.{told};
+ghost use Rattle.lent.specs.Moved.{movedOn};
 ghost use Rattle.kinds.specs.Calls.{makeOf, capacityOf, lenOf, isEmptyOf, reserveOf, containsOf, copyOf, droppedOf};
 ghost use Rattle.spans.specs.Kinds.{sets, setMemory, joinOf, spanOf, setStepOf};
 use answers::Numbers;
@@ -198,4 +199,21 @@ pub extern "C" fn moss_byte_set_step(
 {
     let from = Walk { at: walk as usize };
     step_numbers(from.step(marks, offsets, lengths, arena, budget))
+}
+
+// One step of a lent walk, which moves on in its place.
+#[no_mangle]
+pub extern "C" fn moss_byte_set_walk_on(
+    marks: &[u8],
+    offsets: &[u16],
+    lengths: &[u8],
+    arena: &[u8],
+    walk: &mut u64,
+    budget: u64,
+) -> Numbers
+    ensures { λ r. ⌜ told r (now (walk .exit)) ≡ movedOn (setStepOf (setMemory (now (marks .entry)) (now (offsets .entry)) (now (lengths .entry)) (now (arena .entry))) (now (walk .entry)) budget) ⌝ }
+{
+    let r = moss_byte_set_step(marks, offsets, lengths, arena, *walk, budget);
+    *walk = r.walk;
+    r
 }

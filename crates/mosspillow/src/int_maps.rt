@@ -1,6 +1,7 @@
 // The integer map for C: each call as int_map, int_union and int_walk have it, its answer as numbers.
 ghost use mathlib.Core.Path.{_≡_};
 ghost use Rattle.kinds.specs.Told.{told};
+ghost use Rattle.lent.specs.Moved.{movedOn};
 ghost use Rattle.ints.specs.Memory.{memory};
 ghost use Rattle.int_map.specs.Calls.{makeOf, capacityOf, lenOf, isEmptyOf, reserveOf, getOf, containsKeyOf, insertOf, removeOf, copyOf};
 ghost use Rattle.int_union.specs.Calls.{unionOf};
@@ -184,4 +185,20 @@ pub extern "C" fn moss_int_map_step(
 {
     let from = Walk { at: walk as usize };
     step_numbers(from.step(marks, keys, values, budget))
+}
+
+// One step of a lent walk, which moves on in its place.
+#[no_mangle]
+pub extern "C" fn moss_int_map_walk_on(
+    marks: &[u8],
+    keys: &[u64],
+    values: &[u64],
+    walk: &mut u64,
+    budget: u64,
+) -> Numbers
+    ensures { λ r. ⌜ told r (now (walk .exit)) ≡ movedOn (stepOf (memory (now (marks .entry)) (now (keys .entry)) (now (values .entry))) (now (walk .entry)) budget) ⌝ }
+{
+    let r = moss_int_map_step(marks, keys, values, *walk, budget);
+    *walk = r.walk;
+    r
 }

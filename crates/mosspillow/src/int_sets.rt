@@ -1,6 +1,7 @@
 // The integer set for C: each call as int_set has it, its answer as numbers.
 ghost use mathlib.Core.Path.{_≡_};
 ghost use Rattle.kinds.specs.Told.{told};
+ghost use Rattle.lent.specs.Moved.{movedOn};
 ghost use Rattle.int_set.specs.Memory.{memory};
 ghost use Rattle.int_set.specs.Calls.{makeOf, capacityOf, lenOf, isEmptyOf, reserveOf, getOf, containsOf, insertOf, removeOf, copyOf, stepOf};
 use answers::Numbers;
@@ -123,4 +124,19 @@ pub extern "C" fn moss_int_set_step(marks: &[u8], keys: &[u64], walk: u64, budge
 {
     let from = Walk { at: walk as usize };
     step_numbers(from.step(marks, keys, budget))
+}
+
+// One step of a lent walk, which moves on in its place.
+#[no_mangle]
+pub extern "C" fn moss_int_set_walk_on(
+    marks: &[u8],
+    keys: &[u64],
+    walk: &mut u64,
+    budget: u64,
+) -> Numbers
+    ensures { λ r. ⌜ told r (now (walk .exit)) ≡ movedOn (stepOf (memory (now (marks .entry)) (now (keys .entry))) (now (walk .entry)) budget) ⌝ }
+{
+    let r = moss_int_set_step(marks, keys, *walk, budget);
+    *walk = r.walk;
+    r
 }

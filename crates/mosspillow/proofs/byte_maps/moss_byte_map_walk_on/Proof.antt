@@ -1,0 +1,15 @@
+-- `moss_byte_map_walk_on` meets its contract: its answer is that of the callee, whose walk is stored.
+use mathlib.Core.Path.{refl}
+use borrow.Author.Needs.{needs}
+use Rattle.lent.proofs.Moved.{moved}
+use Rattle.mosspillow.proofs.byte_maps.moss_byte_map_walk_on.Statement.{statement}
+use Rattle.mosspillow.proofs.byte_maps.moss_byte_map_walk_on.Tie as tie
+
+moss-byte-map-step-requires : tie.Need-moss-byte-map-step-requires
+moss-byte-map-step-requires c κs = search needs
+
+returns : tie.Need-returns
+returns c = moved (c .moss-byte-map-step .ensures) refl
+
+pub moss-byte-map-walk-on-spec : {M : Type 1} → statement M
+moss-byte-map-walk-on-spec = tie.close (tie.spec moss-byte-map-step-requires returns)
