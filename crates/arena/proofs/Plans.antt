@@ -112,6 +112,6 @@ module _ (s : Spans) (k : List ℕ) where
       let (x, z) = located-hit (usedOf s) (pathOf s k) (rw (f, a, h) at (sym p ∙ q)) in
       let (l, b) = hit-live f x in
       let (w, n) = unharmed-says s h in
-      record { aligned = aligned f i l; used = z; ends = rw z (n i b); within = rw z w }))
+      record { aligned = aligned f i l; used = z; ends = rw z (n i b); within = rw z w; size = fitting-says s f .arena }))
       (λ a. clash (cc (rw (f, a) at (sym p ∙ q)))))
       (λ f. clash (cc (rw f at (sym p ∙ q))))

@@ -20,9 +20,10 @@ pub record Fillable (s : Spans) (i u : ℕ) (k : List ℕ) : Type 0 where
   pub key : length k ≤ keyLimit
   pub size : length (s .arena) ≤ arenaLimit
 
--- The slot's span ends among the u used bytes, and these are bytes of the arena.
+-- The slot's span ends among the u used bytes, and these are bytes of an arena within its limit.
 pub record Freeable (s : Spans) (i u : ℕ) : Type 0 where
   pub aligned : Aligned s i
   pub used : u ≡ usedOf s
   pub ends : endAt s i ≤ u
   pub within : u ≤ length (s .arena)
+  pub size : length (s .arena) ≤ arenaLimit

@@ -44,14 +44,13 @@ fn close_gap(arena: &mut [u8], offset: usize, len: usize, used: usize)
 }
 
 // The offset of a slot with this mark, after the spans from an end on fell.
-fn lowered(mark: u8, offset: u16, end: usize, len: usize) -> u16
+fn lowered(mark: u8, offset: u16, end: u16, len: u16) -> u16
     requires { ⌜ len ≤ end ⌝ }
     ensures { λ r. ⌜ r ≡ fall end len mark offset ⌝ }
 {
     if mark == 1 {
-        let at = offset as usize;
-        if end <= at {
-            return (at - len) as u16;
+        if end <= offset {
+            return offset - len;
         }
         return offset;
     }
@@ -59,7 +58,7 @@ fn lowered(mark: u8, offset: u16, end: usize, len: usize) -> u16
 }
 
 // Each live offset from an end on falls.
-fn fall_offsets(marks: &[u8], offsets: &mut [u16], end: usize, len: usize)
+fn fall_offsets(marks: &[u8], offsets: &mut [u16], end: u16, len: u16)
     requires { ⌜ (length (now offsets) ≡ length (now marks)) × (len ≤ end) ⌝ }
     ensures { λ r. ⌜ now (offsets .exit) ≡ fallen end len (now (marks .entry)) (now (offsets .entry)) ⌝ }
 {
@@ -102,9 +101,9 @@ pub fn free(
     requires { ⌜ Freeable (spansOf (now marks) (now offsets) (now lengths) (now arena)) slot used ⌝ }
     ensures { λ r. ⌜ spansOf (now (marks .exit)) (now (offsets .exit)) (now (lengths .exit)) (now (arena .exit)) ≡ emptied (spansOf (now (marks .entry)) (now (offsets .entry)) (now (lengths .entry)) (now (arena .entry))) slot ⌝ }
 {
-    let offset = offset_at(offsets, slot) as usize;
-    let len = len_at(lengths, slot) as usize;
-    close_gap(arena, offset, len, used);
+    let offset = offset_at(offsets, slot);
+    let len = len_at(lengths, slot);
+    close_gap(arena, offset as usize, len as usize, used);
     fall_offsets(marks, offsets, offset + len, len);
     marks[slot] = 2;
     offsets[slot] = 0;

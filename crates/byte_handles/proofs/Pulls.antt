@@ -33,9 +33,10 @@ use Rattle.spans.proofs.Bridge.{asked-no}
 use Rattle.spans.proofs.Held.{unharmed-says}
 use Rattle.spans.proofs.Marks.{mark-raw}
 use Rattle.spans.proofs.Plans.{surveyed-bad, surveyed-used}
+use Rattle.spans.proofs.Sizes.{fitting-says}
 use Rattle.arena.specs.Needs.{Freeable}
 use Rattle.byte_map.specs.Seeking.{sizedOf}
-use Rattle.byte_map.proofs.Laws.{same-long}
+use Rattle.byte_map.proofs.Laws.{sized-fits, same-long}
 use Rattle.byte_handles.specs.declared.Held.{Held}
 use Rattle.byte_handles.specs.declared.Held.the-variants as held
 use Rattle.byte_handles.specs.declared.Pulled.{Pulled}
@@ -132,6 +133,7 @@ module _ (m : Strings values) (i : ℕ) (k : List ℕ) where
           used = sym z;
           ends = rw (← z) (t i n);
           within = rw (← z) w;
+          size = fitting-says (m .spans) (sized-fits m (sym f) refl) .arena;
         },
         omega arith,
       )))

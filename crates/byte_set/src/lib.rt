@@ -261,7 +261,7 @@ fn pace(
     at: usize,
     slots: usize,
 ) -> Step
-    requires { ⌜ at + slots ≤ length (now marks) ⌝ }
+    requires { ⌜ (at + slots ≤ length (now marks)) × (length (now offsets) ≡ length (now marks)) × (length (now lengths) ≡ length (now marks)) ⌝ }
     ensures { λ r. ⌜ stepNumbers r ≡ setPaceOf (setMemory (now (marks .entry)) (now (offsets .entry)) (now (lengths .entry)) (now (arena .entry))) at slots ⌝ }
 {
     let next = spans::next_live(marks, offsets, lengths, arena, at, at + slots);

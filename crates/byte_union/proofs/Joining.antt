@@ -19,11 +19,11 @@ use Rattle.kinds.specs.Columns.{values}
 use Rattle.kinds.specs.Told.{told}
 use Rattle.spans.specs.Memory.{Strings, usedOf, fitting}
 use Rattle.spans.specs.Kinds.{maps}
+use Rattle.spans.proofs.Sizes.{fitting-says}
 use Rattle.byte_union.specs.declared.Planned.{Planned}
 use Rattle.byte_union.specs.declared.Planned.the-variants.{Go, Refused}
 use Rattle.byte_union.specs.Needs.{planned, planOf}
 use Rattle.byte_union.specs.Stores.{Ready, pairsOf, allStored}
-use Rattle.byte_union.proofs.Plans.{few-slots}
 use Rattle.byte_union.proofs.Storing.{steady}
 
 clash : {A : Type 0} → _≡_ {A = ℕ} 0 1 → A
@@ -46,14 +46,15 @@ module _ (l r : Strings values) {a : Planned} (p : planned a ≡ planOf l r) whe
   plan-go {u} q = give-ok (usedOf (l .spans)) u (union maps l r) (rw q at p)
 
   -- a plan to store: the left has room for the right's pairs
-  pub go-ready : {u : ℕ} → a ≡ Go u → Ready l u (pairsOf r (length (r .spans .marks))) × (length (r .words) ≡ length (r .spans .marks)) × (length (r .spans .marks) ≤ 4096)
+  pub go-ready : {u : ℕ} → a ≡ Go u → Ready l u (pairsOf r (length (r .spans .marks))) × (length (r .words) ≡ length (r .spans .marks)) × (length (r .spans .marks) ≤ 4096) × (length (r .spans .offsets) ≡ length (r .spans .marks)) × (length (r .spans .lengths) ≡ length (r .spans .marks))
   unfolding pairsOf union
   go-ready q =
       let (x, e, d) = plan-go q in
       let f = need-ok (maps .sized l) 1 _ x e .1 in
       let g = need-ok (maps .sized r) 1 _ x f .0 in
       let (h, i) = both (fitting (r .spans)) (eqb (length (r .spans .marks)) (length (r .words))) g in
-      (record { room = union-roomy maps steady l r x e; used = d }, sym (eqb-true (length (r .spans .marks)) (length (r .words)) i), few-slots (r .spans) h)
+      let z = fitting-says (r .spans) h in
+      (record { room = union-roomy maps steady l r x e; used = d }, sym (eqb-true (length (r .spans .marks)) (length (r .words)) i), z .few, z .offsets, z .lengths)
 
   -- and then all pairs go in
   pub union-done : {u : ℕ} {m : Strings values} → a ≡ Go u → m ≡ allStored l r (length (r .spans .marks)) → told (outcomeNumbers outcome.Done) m ≡ unionOf maps l r

@@ -70,7 +70,7 @@ fn lack(
     right_arena: &[u8],
     i: usize,
 ) -> Needed
-    requires { ⌜ fitting (spansOf (now marks) (now offsets) (now lengths) (now arena)) ≡ true ⌝ }
+    requires { ⌜ (fitting (spansOf (now marks) (now offsets) (now lengths) (now arena)) ≡ true) × (fitting (spansOf (now «right_marks») (now «right_offsets») (now «right_lengths») (now «right_arena»)) ≡ true) × (i < length (now «right_marks»)) ⌝ }
     ensures { λ r. ⌜ (r ≡ lackAt (spansOf (now (marks .entry)) (now (offsets .entry)) (now (lengths .entry)) (now (arena .entry))) (spansOf (now («right_marks» .entry)) (now («right_offsets» .entry)) (now («right_lengths» .entry)) (now («right_arena» .entry))) i) × (r .slots ≤ 1) × (r .bytes ≤ 255) ⌝ }
 {
     if mark_at(right_marks, right_offsets, right_lengths, right_arena, i) == 1 {
@@ -94,7 +94,7 @@ fn lacks(
     right_lengths: &[u8],
     right_arena: &[u8],
 ) -> Needed
-    requires { ⌜ (fitting (spansOf (now marks) (now offsets) (now lengths) (now arena)) ≡ true) × (length (now «right_marks») ≤ 4096) ⌝ }
+    requires { ⌜ (fitting (spansOf (now marks) (now offsets) (now lengths) (now arena)) ≡ true) × (fitting (spansOf (now «right_marks») (now «right_offsets») (now «right_lengths») (now «right_arena»)) ≡ true) ⌝ }
     ensures { λ r. ⌜ r ≡ lacksOf (spansOf (now (marks .entry)) (now (offsets .entry)) (now (lengths .entry)) (now (arena .entry))) (spansOf (now («right_marks» .entry)) (now («right_offsets» .entry)) (now («right_lengths» .entry)) (now («right_arena» .entry))) (length (now («right_marks» .entry))) ⌝ }
 {
     let mut slots = 0;
@@ -248,7 +248,7 @@ fn store_slot(
     i: usize,
     used: usize,
 ) -> usize
-    requires { ⌜ Ready (mapMemory (now marks) (now offsets) (now lengths) (now values) (now arena)) used (pairAt (mapMemory (now «right_marks») (now «right_offsets») (now «right_lengths») (now «right_values») (now «right_arena»)) i) × (i < length (now «right_values»)) ⌝ }
+    requires { ⌜ Ready (mapMemory (now marks) (now offsets) (now lengths) (now values) (now arena)) used (pairAt (mapMemory (now «right_marks») (now «right_offsets») (now «right_lengths») (now «right_values») (now «right_arena»)) i) × (i < length (now «right_values»)) × (i < length (now «right_marks»)) × (length (now «right_offsets») ≡ length (now «right_marks»)) × (length (now «right_lengths») ≡ length (now «right_marks»)) ⌝ }
     ensures { λ r. ⌜ (mapMemory (now (marks .exit)) (now (offsets .exit)) (now (lengths .exit)) (now (values .exit)) (now (arena .exit)) ≡ slotStored (mapMemory (now (marks .entry)) (now (offsets .entry)) (now (lengths .entry)) (now (values .entry)) (now (arena .entry))) (mapMemory (now («right_marks» .entry)) (now («right_offsets» .entry)) (now («right_lengths» .entry)) (now («right_values» .entry)) (now («right_arena» .entry))) i) × (r ≡ usedOf (spansOf (now (marks .exit)) (now (offsets .exit)) (now (lengths .exit)) (now (arena .exit)))) ⌝ }
 {
     if mark_at(right_marks, right_offsets, right_lengths, right_arena, i) == 1 {
@@ -283,7 +283,7 @@ fn store_all(
     right_arena: &[u8],
     used: usize,
 )
-    requires { ⌜ Ready (mapMemory (now marks) (now offsets) (now lengths) (now values) (now arena)) used (pairsOf (mapMemory (now «right_marks») (now «right_offsets») (now «right_lengths») (now «right_values») (now «right_arena»)) (length (now «right_marks»))) × (length (now «right_values») ≡ length (now «right_marks»)) × (length (now «right_marks») ≤ 4096) ⌝ }
+    requires { ⌜ Ready (mapMemory (now marks) (now offsets) (now lengths) (now values) (now arena)) used (pairsOf (mapMemory (now «right_marks») (now «right_offsets») (now «right_lengths») (now «right_values») (now «right_arena»)) (length (now «right_marks»))) × (length (now «right_values») ≡ length (now «right_marks»)) × (length (now «right_marks») ≤ 4096) × (length (now «right_offsets») ≡ length (now «right_marks»)) × (length (now «right_lengths») ≡ length (now «right_marks»)) ⌝ }
     ensures { λ r. ⌜ mapMemory (now (marks .exit)) (now (offsets .exit)) (now (lengths .exit)) (now (values .exit)) (now (arena .exit)) ≡ allStored (mapMemory (now (marks .entry)) (now (offsets .entry)) (now (lengths .entry)) (now (values .entry)) (now (arena .entry))) (mapMemory (now («right_marks» .entry)) (now («right_offsets» .entry)) (now («right_lengths» .entry)) (now («right_values» .entry)) (now («right_arena» .entry))) (length (now («right_marks» .entry))) ⌝ }
 {
     let mut end = used;

@@ -62,8 +62,8 @@ module _ (m : Strings values) (at : ℕ) where
       step-unpaid z s e = e ∙ (rw (sized-as maps m p q, z))
 
       -- within the reach all slots are there
-      pub pace-fits : {g : ℕ} → at ≤ length (m .spans .marks) → g ≡ reachOf (length (m .spans .marks)) at budget → (at + g ≤ length (m .spans .marks)) × (length (m .words) ≡ length (m .spans .marks))
-      pace-fits l e = let (i, j, k) = same-long m p q in (omega (arith, reach-high (length (m .spans .marks)) at budget), k)
+      pub pace-fits : {g : ℕ} → at ≤ length (m .spans .marks) → g ≡ reachOf (length (m .spans .marks)) at budget → (at + g ≤ length (m .spans .marks)) × (length (m .spans .offsets) ≡ length (m .spans .marks)) × (length (m .spans .lengths) ≡ length (m .spans .marks)) × (length (m .words) ≡ length (m .spans .marks))
+      pace-fits l e = let (i, j, k) = same-long m p q in (omega (arith, reach-high (length (m .spans .marks)) at budget), i, j, k)
 
       module _ (h : budget ≡ 0 → ⊥) where
         pub step-beyond : length (m .spans .marks) < at → (s : Step) → stepNumbers s ≡ refusedNumbers at WalkBeyond → stepNumbers s ≡ stepOf m at budget

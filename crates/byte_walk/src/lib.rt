@@ -66,7 +66,7 @@ fn pace(
     at: usize,
     slots: usize,
 ) -> Step
-    requires { ⌜ (at + slots ≤ length (now marks)) × (length (now values) ≡ length (now marks)) ⌝ }
+    requires { ⌜ (at + slots ≤ length (now marks)) × (length (now offsets) ≡ length (now marks)) × (length (now lengths) ≡ length (now marks)) × (length (now values) ≡ length (now marks)) ⌝ }
     ensures { λ r. ⌜ stepNumbers r ≡ paceOf (mapMemory (now (marks .entry)) (now (offsets .entry)) (now (lengths .entry)) (now (values .entry)) (now (arena .entry))) at slots ⌝ }
 {
     let next = next_live(marks, offsets, lengths, arena, at, at + slots);

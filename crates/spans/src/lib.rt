@@ -82,20 +82,14 @@ pub fn put_len(lengths: &mut [u8], i: usize, n: usize)
     lengths[i] = n as u8;
 }
 
-// The end of the span of slot i.
-pub fn end_at(offsets: &[u16], lengths: &[u8], i: usize) -> usize
-    ensures { λ r. ⌜ r ≡ getD (now (offsets .entry)) i 0 + getD (now (lengths .entry)) i 0 ⌝ }
-{
-    (offset_at(offsets, i) as usize) + (len_at(lengths, i) as usize)
-}
-
 // The mark of slot i: a live span past the arena is damage, shown as 3.
 pub fn mark_at(marks: &[u8], offsets: &[u16], lengths: &[u8], arena: &[u8], i: usize) -> u8
+    requires { ⌜ (i < length (now marks)) × (length (now offsets) ≡ length (now marks)) × (length (now lengths) ≡ length (now marks)) ⌝ }
     ensures { λ r. ⌜ r ≡ markAt (spansOf (now (marks .entry)) (now (offsets .entry)) (now (lengths .entry)) (now (arena .entry))) i ⌝ }
 {
-    let mark = byte_at(marks, i);
+    let mark = marks[i];
     if mark == 1 {
-        if arena.len() < end_at(offsets, lengths, i) {
+        if arena.len() < (offsets[i] as usize) + (lengths[i] as usize) {
             return 3;
         }
         return 1;
@@ -233,6 +227,7 @@ pub fn probe(marks: &[u8], offsets: &[u16], lengths: &[u8], arena: &[u8], key: &
 
 // The scan of all slots: damage, else the number of live slots.
 pub fn scan(marks: &[u8], offsets: &[u16], lengths: &[u8], arena: &[u8]) -> Scanned
+    requires { ⌜ (length (now offsets) ≡ length (now marks)) × (length (now lengths) ≡ length (now marks)) ⌝ }
     ensures { λ r. ⌜ r ≡ scanning (spansOf (now (marks .entry)) (now (offsets .entry)) (now (lengths .entry)) (now (arena .entry))) ⌝ }
 {
     let mut live = 0;
@@ -248,7 +243,7 @@ pub fn scan(marks: &[u8], offsets: &[u16], lengths: &[u8], arena: &[u8]) -> Scan
     Scanned::Live(live)
 }
 
-// The first live or damaged slot from `at` on, before `end`; beyond the marks there is none.
+// The first live or damaged slot from `at` on, before `end`.
 pub fn next_live(
     marks: &[u8],
     offsets: &[u16],
@@ -257,13 +252,11 @@ pub fn next_live(
     at: usize,
     end: usize,
 ) -> Next
+    requires { ⌜ (end ≤ length (now marks)) × (length (now offsets) ≡ length (now marks)) × (length (now lengths) ≡ length (now marks)) ⌝ }
     ensures { λ r. ⌜ r ≡ nexting (spansOf (now (marks .entry)) (now (offsets .entry)) (now (lengths .entry)) (now (arena .entry))) at end ⌝ }
 {
     let mut i = at;
     while i < end {
-        if marks.len() <= i {
-            return Next::Nothing;
-        }
         let here = mark_at(marks, offsets, lengths, arena, i);
         if here == 1 {
             return Next::Live(i);

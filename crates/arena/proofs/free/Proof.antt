@@ -8,20 +8,21 @@ use Rattle.arena.proofs.free.Tie as tie
 offset-at-requires : tie.Need-offset-at-requires
 offset-at-requires c κs = search needs
 
-cast-offset : tie.Need-cast-offset
-cast-offset c = search needs
-
 len-at-requires : tie.Need-len-at-requires
 len-at-requires c κs = search needs
 
-cast-len : tie.Need-cast-len
-cast-len c = search needs
+cast-close-gap : tie.Need-cast-close-gap
+cast-close-gap c = search needs
+
+cast-close-gap-2 : tie.Need-cast-close-gap-2
+cast-close-gap-2 c = search needs
 
 close-gap-requires : tie.Need-close-gap-requires
 unfolding endAt
 close-gap-requires c κs = search needs
 
 add-fall-offsets : tie.Need-add-fall-offsets
+unfolding endAt
 add-fall-offsets c = search needs
 
 fall-offsets-requires : tie.Need-fall-offsets-requires
@@ -59,9 +60,9 @@ free-spec =
     tie.close
     (tie.spec
     offset-at-requires
-    cast-offset
     len-at-requires
-    cast-len
+    cast-close-gap
+    cast-close-gap-2
     close-gap-requires
     add-fall-offsets
     fall-offsets-requires

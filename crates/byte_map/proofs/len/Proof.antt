@@ -1,7 +1,7 @@
 -- `byte_map::len` meets its contract: refusal 1 or 5, or the number of live slots.
 use borrow.Author.Needs.{needs}
 use Rattle.byte_map.proofs.Counting.{len-not}
-use Rattle.byte_map.proofs.Laws.{len-live, len-bad}
+use Rattle.byte_map.proofs.Laws.{same-long, len-live, len-bad}
 use Rattle.byte_map.proofs.len.Statement.{statement}
 use Rattle.byte_map.proofs.len.Tie as tie
 
@@ -9,7 +9,7 @@ map-fits-requires : tie.Need-map-fits-requires
 map-fits-requires c κs = search needs
 
 scan-requires : tie.Need-scan-requires
-scan-requires c κs = search needs
+scan-requires c κs = let (o, l, v) = same-long _ (c .before .map-fits .ensures) (c .if1 .taken) in (o, l)
 
 enum-known-seen : tie.Need-enum-known-seen
 enum-known-seen c = search needs

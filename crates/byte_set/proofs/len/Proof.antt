@@ -1,5 +1,7 @@
 -- `byte_set::len` meets its contract: refusal 1 or 5, or the number of live marks.
+use mathlib.Core.Path.{sym, _∙_}
 use borrow.Author.Needs.{needs}
+use Rattle.spans.proofs.Sizes.{fitting-says}
 use Rattle.byte_set.proofs.Laws.{len-live, len-bad, len-not}
 use Rattle.byte_set.proofs.len.Statement.{statement}
 use Rattle.byte_set.proofs.len.Tie as tie
@@ -8,7 +10,7 @@ fits-requires : tie.Need-fits-requires
 fits-requires c κs = search needs
 
 scan-requires : tie.Need-scan-requires
-scan-requires c κs = search needs
+scan-requires c κs = let z = fitting-says _ (sym (c .before .fits2 .ensures) ∙ c .if1 .taken) in (z .offsets, z .lengths)
 
 enum-known-seen : tie.Need-enum-known-seen
 enum-known-seen c = search needs

@@ -2,12 +2,13 @@
 use Prim.Native.Nat.{_≤_}
 use native.Mathlib.Omega.{arith}
 use borrow.Author.Needs.{needs}
+use Rattle.spans.proofs.Sizes.{fitting-says}
 use Rattle.byte_union.proofs.Needing.{span-within, lack-idle, lack-live}
 use Rattle.byte_union.proofs.lack.Statement.{statement}
 use Rattle.byte_union.proofs.lack.Tie as tie
 
 mark-at-requires : tie.Need-mark-at-requires
-mark-at-requires c κs = search needs
+mark-at-requires c κs = let z = fitting-says _ (c .before .before .before .before .before .before .before .before .pre .1) in (c .before .before .before .before .before .before .before .before .pre .2, z .offsets, z .lengths)
 
 offset-at-requires : tie.Need-offset-at-requires
 offset-at-requires c κs = search needs
@@ -40,7 +41,7 @@ needed-by-requires : tie.Need-needed-by-requires
 needed-by-requires c κs = search needs
 
 returns : tie.Need-returns
-returns c = lack-live _ _ _ (c .before .before .before .before .before .before .mark-at .ensures) (c .before .before .before .before .before .if1 .taken) (c .before .before .before .before .offset-at .ensures) (c .before .before .before .byte-at .ensures) (search needs) (c .before .before .before .before .before .before .before .before .before .before .before .before .before .before .before .pre) (c .before .probe .ensures) (c .needed-by .ensures)
+returns c = lack-live _ _ _ (c .before .before .before .before .before .before .mark-at .ensures) (c .before .before .before .before .before .if1 .taken) (c .before .before .before .before .offset-at .ensures) (c .before .before .before .byte-at .ensures) (search needs) (c .before .before .before .before .before .before .before .before .before .before .before .before .before .before .before .pre .0) (c .before .probe .ensures) (c .needed-by .ensures)
 
 returns-2 : tie.Need-returns-2
 returns-2 c = lack-idle _ _ _ (c .before .mark-at .ensures) (c .if1 .left)

@@ -4,6 +4,7 @@ use native.Mathlib.Omega.{arith}
 use lib.ListN.{length}
 use borrow.Author.Needs.{needs}
 use Rattle.spans.specs.Memory.{spansOf}
+use Rattle.spans.proofs.Sizes.{fitting-says}
 use Rattle.byte_union.proofs.Needing.{Needing, need-start, need-more, need-end}
 use Rattle.byte_union.proofs.lacks.Statement.{statement}
 use Rattle.byte_union.proofs.lacks.Tie as tie
@@ -18,13 +19,13 @@ loop-holds : tie.Need-loop-holds Inv-loop μ-loop
 loop-holds c = need-start _ _
 
 lack-requires : tie.Need-lack-requires Inv-loop μ-loop
-lack-requires c κs = c .before .before .before .before .before .before .before .before .before .before .pre .0
+lack-requires c κs = (c .before .before .before .before .before .before .before .before .before .before .pre .0, c .before .before .before .before .before .before .before .before .before .before .pre .1, c .loop-test .taken)
 
 add-slots : tie.Need-add-slots Inv-loop μ-loop
-add-slots c = search needs
+add-slots c = let few = fitting-says _ (c .before .before .before .before .before .before .before .before .before .before .before .before .pre .1) .few in search needs
 
 add-bytes : tie.Need-add-bytes Inv-loop μ-loop
-add-bytes c = search needs
+add-bytes c = let few = fitting-says _ (c .before .before .before .before .before .before .before .before .before .before .before .before .before .pre .1) .few in search needs
 
 add-i : tie.Need-add-i Inv-loop μ-loop
 add-i c = search needs

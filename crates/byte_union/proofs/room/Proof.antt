@@ -1,6 +1,6 @@
 -- `byte_union::room` meets its contract: damage in either table, then what the right needs.
 use borrow.Author.Needs.{needs}
-use Rattle.byte_union.proofs.Plans.{few-slots}
+use Rattle.spans.proofs.Sizes.{fitting-says}
 use Rattle.byte_union.proofs.Rooms.{live-scanned, used-inside, left-bad, right-bad, scan-none, room-slots, room-bytes, room-go}
 use Rattle.byte_union.proofs.room.Statement.{statement}
 use Rattle.byte_union.proofs.room.Tie as tie
@@ -30,7 +30,7 @@ returns-2 : tie.Need-returns-2
 returns-2 c = right-bad _ _ (c .before .before .before .before .before .before .survey .ensures) (c .before .before .before .before .found .given .1) (c .before .before .survey2 .ensures) (c .enum-told3 .given .1)
 
 scan-requires : tie.Need-scan-requires
-scan-requires c κs = search needs
+scan-requires c κs = let z = fitting-says _ (c .before .before .before .before .before .before .before .before .before .before .before .before .before .before .before .pre .0) in (z .offsets, z .lengths)
 
 enum-known-seen : tie.Need-enum-known-seen
 enum-known-seen c = search needs
@@ -42,7 +42,7 @@ returns-3 : tie.Need-returns-3
 returns-3 c = scan-none _ _ (c .before .before .before .before .before .before .before .before .before .survey .ensures) (c .before .before .before .before .before .before .before .found .given .1) (c .before .before .before .before .before .survey2 .ensures) (c .before .before .scan .ensures) (c .enum-told4 .given .1)
 
 lacks-requires : tie.Need-lacks-requires
-lacks-requires c κs = (c .before .before .before .before .before .before .before .before .before .before .before .before .before .before .before .before .before .before .before .pre .0, few-slots _ (c .before .before .before .before .before .before .before .before .before .before .before .before .before .before .before .before .before .before .before .pre .1))
+lacks-requires c κs = c .before .before .before .before .before .before .before .before .before .before .before .before .before .before .before .before .before .before .before .pre
 
 sub-if1 : tie.Need-sub-if1
 sub-if1 c = live-scanned _ (c .before .before .before .before .scan .ensures) (c .before .before .seen .given .1) .1

@@ -6,7 +6,7 @@ use Rattle.byte_union.proofs.store_slot.Statement.{statement}
 use Rattle.byte_union.proofs.store_slot.Tie as tie
 
 mark-at-requires : tie.Need-mark-at-requires
-mark-at-requires c κs = search needs
+mark-at-requires c κs = (c .before .before .before .before .before .before .before .before .before .before .pre .2, c .before .before .before .before .before .before .before .before .before .before .pre .3, c .before .before .before .before .before .before .before .before .before .before .pre .4)
 
 offset-at-requires : tie.Need-offset-at-requires
 offset-at-requires c κs = search needs

@@ -1,23 +1,52 @@
 -- `spans::mark_at` meets its contract: a live span past the arena is shown as 3, any other mark as it is.
+use mathlib.Core.Path.{refl}
+use native.Mathlib.Omega.{arith}
 use borrow.Author.Needs.{needs}
 use Rattle.spans.proofs.Marks.{mark-past, mark-within, mark-other}
 use Rattle.spans.proofs.mark_at.Statement.{statement}
 use Rattle.spans.proofs.mark_at.Tie as tie
 
-byte-at-requires : tie.Need-byte-at-requires
-byte-at-requires c κs = search needs
+shared-slice-read-mark : tie.Need-shared-slice-read-mark
+shared-slice-read-mark c = search needs
 
-end-at-requires : tie.Need-end-at-requires
-end-at-requires c κs = search needs
+mul-if2 : tie.Need-mul-if2
+mul-if2 c = search needs
+
+shared-slice-read-if2 : tie.Need-shared-slice-read-if2
+shared-slice-read-if2 c = search needs
+
+cast-if2 : tie.Need-cast-if2
+cast-if2 c = omega (arith, c .shared-slice-known2 .given (c .before .before .before .args .i))
+
+shared-slice-read-if2-2 : tie.Need-shared-slice-read-if2-2
+shared-slice-read-if2-2 c = search needs
+
+cast-if2-2 : tie.Need-cast-if2-2
+cast-if2-2 c = omega (arith, c .shared-slice-known3 .given (c .before .before .before .before .args .i))
+
+add-if2 : tie.Need-add-if2
+add-if2 c = omega (arith, c .shared-slice-known3 .given (c .before .before .before .before .args .i), c .before .shared-slice-known2 .given (c .before .before .before .before .args .i))
 
 returns : tie.Need-returns
-returns c = mark-past _ _ (c .before .before .before .byte-at .ensures) (c .before .before .if1 .taken) (c .before .end-at .ensures) (c .if2 .taken)
+returns c = mark-past _ _ refl (c .before .before .before .if1 .taken) refl (c .if2 .taken)
 
 returns-2 : tie.Need-returns-2
-returns-2 c = mark-within _ _ (c .before .before .before .byte-at .ensures) (c .before .before .if1 .taken) (c .before .end-at .ensures) (c .if2 .left)
+returns-2 c = mark-within _ _ refl (c .before .before .before .if1 .taken) refl (c .if2 .left)
 
 returns-3 : tie.Need-returns-3
-returns-3 c = mark-other _ _ (c .before .byte-at .ensures) (c .if1 .left)
+returns-3 c = mark-other _ _ refl (c .if1 .left)
 
 pub mark-at-spec : {M : Type 1} → statement M
-mark-at-spec = tie.close (tie.spec byte-at-requires end-at-requires returns returns-2 returns-3)
+mark-at-spec =
+    tie.close
+    (tie.spec
+    shared-slice-read-mark
+    mul-if2
+    shared-slice-read-if2
+    cast-if2
+    shared-slice-read-if2-2
+    cast-if2-2
+    add-if2
+    returns
+    returns-2
+    returns-3)

@@ -1,5 +1,7 @@
 -- `byte_set::Walk::step` meets its contract: refusals 1, 3 and 4, done at S, else the slots within the reach.
+use mathlib.Core.Path.{sym, _∙_}
 use borrow.Author.Needs.{needs}
+use Rattle.spans.proofs.Sizes.{fitting-says}
 use Rattle.byte_set.proofs.Steps.{step-unfit, step-unpaid, step-beyond, step-done, pace-fits, step-pace}
 use Rattle.byte_set.proofs.Walk.step.Statement.{statement}
 use Rattle.byte_set.proofs.Walk.step.Tie as tie
@@ -26,7 +28,7 @@ reach-requires : tie.Need-reach-requires
 reach-requires c κs = search needs
 
 pace-requires : tie.Need-pace-requires
-pace-requires c κs = pace-fits _ _ _ (c .before .before .if3 .left) (c .reach .ensures)
+pace-requires c κs = let z = fitting-says _ (sym (c .before .before .before .before .before .fits2 .ensures) ∙ c .before .before .before .before .if1 .taken) in (pace-fits _ _ _ (c .before .before .if3 .left) (c .reach .ensures), z .offsets, z .lengths)
 
 returns-4 : tie.Need-returns-4
 returns-4 c = step-pace _ _ _ (c .before .before .before .before .before .before .fits2 .ensures) (c .before .before .before .before .before .if1 .taken) (c .before .before .before .before .if2 .left) (c .before .before .before .if3 .left) (c .before .before .if4 .left) (c .before .reach .ensures) _ (c .pace .ensures)
