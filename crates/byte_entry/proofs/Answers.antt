@@ -10,25 +10,23 @@ use Rattle.model.specs.Calls.{Or, no, ok, give, on-occupied, on-vacant, occupie
 use Rattle.answers.specs.declared.Refusal.{Refusal}
 use Rattle.answers.specs.declared.Numbers.{Numbers}
 use Rattle.answers.specs.Refusals.{numberOf}
-use Rattle.answers.specs.Said.{swappedSaid, standingSaid}
-use Rattle.kinds.specs.Calls.{setOf, standingOf, slotOf, orInsertOf, insertEntryOf}
+use Rattle.answers.specs.Said.{heldSaid, swappedSaid, standingSaid}
+use Rattle.kinds.specs.Calls.{heldOf, setOf, standingOf, slotOf, orInsertOf, insertEntryOf}
 use Rattle.kinds.specs.Columns.{values}
 use Rattle.kinds.specs.Told.{told}
 use Rattle.spans.specs.Kinds.{maps}
 use Rattle.spans.specs.Memory.{Strings}
+use Rattle.byte_handles.specs.declared.Occupied.{Occupied}
+use Rattle.byte_handles.specs.declared.Held.{Held}
+use Rattle.byte_handles.specs.declared.Held.the-variants as held
+use Rattle.byte_handles.specs.declared.Swapped.{Swapped}
+use Rattle.byte_handles.specs.declared.Swapped.the-variants as swapped
+use Rattle.byte_handles.specs.declared.Standing.the-variants as standing
+use Rattle.byte_handles.specs.Numbers.{heldNumbers, swappedNumbers, standingNumbers}
 use Rattle.byte_entry.proofs.Entered.{the-type}
-use Rattle.byte_entry.specs.declared.Occupied.{Occupied}
 use Rattle.byte_entry.specs.declared.Entered.{Entered}
 use Rattle.byte_entry.specs.declared.Entered.the-variants as entered
-use Rattle.byte_entry.specs.declared.Held.{Held}
-use Rattle.byte_entry.specs.declared.Held.the-variants as held
-use Rattle.byte_entry.specs.declared.Swapped.{Swapped}
-use Rattle.byte_entry.specs.declared.Swapped.the-variants as swapped
-use Rattle.byte_entry.specs.declared.Standing.the-variants as standing
-use Rattle.byte_entry.specs.Numbers.{swappedNumbers, standingNumbers}
 use Rattle.byte_entry.specs.Calls.{placeOf, handleOf}
-use Rattle.byte_entry.specs.Planning.{holding}
-use Rattle.byte_entry.proofs.Grips.{get-ok, get-no}
 
 -- what is told and what is left, apart and together
 said : {M : Type 0} {a b : Numbers} {m n : M} → told a m ≡ told b n → a ≡ b
@@ -56,7 +54,17 @@ not-occupied S (entered.Occupied h v e) (inr t) = let z : ⊥ = omega arith in a
 not-occupied S (entered.Vacant h e) t = refl
 not-occupied S (entered.Refused r) t = refl
 
--- what the answer of a set says of the theory's
+-- what the answer of a get or a set says of the theory's
+held-ok : (s : ℕ) {v : ℕ} {h : Occupied} {r : Held} (x : Or ℕ) → heldNumbers r ≡ heldSaid s x → r ≡ held.Value v h → x ≡ ok v
+unfolding heldNumbers heldSaid
+held-ok s (no n) p q = let z : ⊥ = omega (arith, ap (λ n. n .case) (rw q at p)) in absurd z
+held-ok s (ok w) p q = ap ok (sym (ap (λ n. n .value) (rw q at p)))
+
+held-no : (s : ℕ) {e : Refusal} {r : Held} (x : Or ℕ) → heldNumbers r ≡ heldSaid s x → r ≡ held.Refused e → x ≡ no (numberOf e)
+unfolding heldNumbers heldSaid
+held-no s (no n) p q = ap no (sym (ap (λ n. n .refusal) (rw q at p)))
+held-no s (ok w) p q = let z : ⊥ = omega (arith, ap (λ n. n .case) (rw q at p)) in absurd z
+
 swapped-ok : (s : ℕ) {v : ℕ} {h : Occupied} {r : Swapped} (x : Or ℕ) → swappedNumbers r ≡ swappedSaid s x → r ≡ swapped.Was v h → x ≡ ok v
 unfolding swappedNumbers swappedSaid
 swapped-ok s (no n) p q = let z : ⊥ = omega (arith, ap (λ n. n .case) (rw q at p)) in absurd z
@@ -83,15 +91,15 @@ module _ (m : Strings values) (k : List ℕ) (v : ℕ) (a : Entered) where
     unfolding handleOf
     on = rw o
 
-    -- occupied: the plan of the handle's get
-    module _ {r : Held} (p : r ≡ holding m (h .slot) k) where
+    -- occupied: the handle's get
+    module _ {r : Held} (p : heldNumbers r ≡ heldOf maps m (h .slot) k) where
       pub or-insert-kept : {x : ℕ} {g : Occupied} → r ≡ held.Value x g → told (standingNumbers (standing.Now h x)) m ≡ orInsertOf maps m (handleOf (length (m .spans .marks)) a) k v
-      unfolding orInsertOf or-insert after-or-insert slotOf standingNumbers standingSaid
-      or-insert-kept q = rw (on, get-ok m (h .slot) k p q)
+      unfolding heldOf orInsertOf or-insert after-or-insert slotOf standingNumbers standingSaid
+      or-insert-kept q = rw (on, held-ok (h .slot) (occupied-get maps m (h .slot) k) p q)
 
       pub or-insert-refused : {x : Refusal} → r ≡ held.Refused x → told (standingNumbers (standing.Refused x)) m ≡ orInsertOf maps m (handleOf (length (m .spans .marks)) a) k v
-      unfolding orInsertOf or-insert after-or-insert slotOf standingNumbers standingSaid
-      or-insert-refused q = rw (on, get-no m (h .slot) k p q)
+      unfolding heldOf orInsertOf or-insert after-or-insert slotOf standingNumbers standingSaid
+      or-insert-refused q = rw (on, held-no (h .slot) (occupied-get maps m (h .slot) k) p q)
 
     -- or its set
     module _ {r : Swapped} {m′ : Strings values} (p : told (swappedNumbers r) m′ ≡ setOf maps m (h .slot) k v) where

@@ -1,85 +1,29 @@
-// The byte map's entries: an entry answer, and handles that their own calls take and hand back; the key is given again each time.
+// The byte map's entries: an entry answer, and its own calls, which go on by the handle in it; the key is given again each time.
 ghost use mathlib.Core.Path.{_≡_};
 ghost use lib.ListN.{length};
-ghost use Rattle.kinds.specs.Calls.{entryOf, heldOf, setOf, takenOf, standingOf, orInsertOf, insertEntryOf};
+ghost use Rattle.kinds.specs.Calls.{entryOf, orInsertOf, insertEntryOf};
 ghost use Rattle.kinds.specs.Told.{told};
 ghost use Rattle.spans.specs.Kinds.{maps, mapMemory};
-ghost use Rattle.byte_entry.specs.Numbers.{enteredNumbers, heldNumbers, swappedNumbers, takenNumbers, standingNumbers};
-ghost use Rattle.byte_entry.specs.Planning.{storing, sized, heldBy, gripping, holding, pulledBy, pulling, freshBy};
+ghost use Rattle.byte_handles.specs.Numbers.{standingNumbers};
+ghost use Rattle.byte_entry.specs.Numbers.{enteredNumbers};
 ghost use Rattle.byte_entry.specs.Calls.{placeOf, handleOf};
 use answers::Refusal;
-use kinds::Sight;
+use byte_map::place;
 use spans::Placed;
-use spans::Surveyed;
 
-// A handle of a slot that holds a key.
-pub struct Occupied {
-    pub slot: usize,
-}
-
-// A handle of the slot that a key would take.
-pub struct Vacant {
-    pub slot: usize,
-}
+// The handles and the answers of their calls stand in `byte_handles`, and are had here too.
+pub use byte_handles::Held;
+pub use byte_handles::Occupied;
+pub use byte_handles::Standing;
+pub use byte_handles::Swapped;
+pub use byte_handles::Taken;
+pub use byte_handles::Vacant;
 
 // The answer of entry: an occupied handle with the value, or a vacant one, each with the examined number.
 pub enum Entered {
     Occupied(Occupied, u64, usize),
     Vacant(Vacant, usize),
     Refused(Refusal),
-}
-
-// The answer of an occupied handle's get: the value in the slot.
-pub enum Held {
-    Value(u64, Occupied),
-    Refused(Refusal),
-}
-
-// The answer of its set: the value that was in the slot.
-pub enum Swapped {
-    Was(u64, Occupied),
-    Refused(Refusal),
-}
-
-// The answer of its remove and remove_entry: the value; the key is the one given.
-pub enum Taken {
-    Removed(u64),
-    Refused(Refusal),
-}
-
-// The answer of the calls that leave the key in a slot: its handle, and the value now in the slot.
-pub enum Standing {
-    Now(Occupied, u64),
-    Refused(Refusal),
-}
-
-// The plan of an occupied handle's removal: the value and `used`, or a refusal.
-pub enum Pulled {
-    Out(u64, usize),
-    Refused(Refusal),
-}
-
-// The plan of a vacant handle's insert: `used`, or a refusal.
-pub enum Fresh {
-    Used(usize),
-    Refused(Refusal),
-}
-
-// The plan of a call that stores a key, with the test of the values' length.
-fn find_place(
-    marks: &[u8],
-    offsets: &[u16],
-    lengths: &[u8],
-    values: &[u64],
-    arena: &[u8],
-    key: &[u8],
-) -> Placed
-    ensures { λ r. ⌜ r ≡ storing (mapMemory (now (marks .entry)) (now (offsets .entry)) (now (lengths .entry)) (now (values .entry)) (now (arena .entry))) (now (key .entry)) ⌝ }
-{
-    if marks.len() == values.len() {
-        return spans::place(marks, offsets, lengths, arena, key);
-    }
-    Placed::Refused(Refusal::Sizes)
 }
 
 // Where a key stands or would go; refused exactly as insert would be.
@@ -93,241 +37,11 @@ pub fn entry(
 ) -> Entered
     ensures { λ r. ⌜ enteredNumbers r ≡ entryOf maps (mapMemory (now (marks .entry)) (now (offsets .entry)) (now (lengths .entry)) (now (values .entry)) (now (arena .entry))) (now (key .entry)) ⌝ }
 {
-    let plan = find_place(marks, offsets, lengths, values, arena, key);
+    let plan = place(marks, offsets, lengths, values, arena, key);
     match plan {
         Placed::Hit(slot, examined) => Entered::Occupied(Occupied { slot }, values[slot], examined),
         Placed::Free(slot, examined, _) => Entered::Vacant(Vacant { slot }, examined),
         Placed::Refused(r) => Entered::Refused(r),
-    }
-}
-
-// Whether the lent slices agree in length, and S and the arena are within their limits.
-fn map_fits(marks: &[u8], offsets: &[u16], lengths: &[u8], values: &[u64], arena: &[u8]) -> bool
-    ensures { λ r. ⌜ r ≡ sized (mapMemory (now (marks .entry)) (now (offsets .entry)) (now (lengths .entry)) (now (values .entry)) (now (arena .entry))) ⌝ }
-{
-    if marks.len() == values.len() {
-        return spans::fits(marks, offsets, lengths, arena);
-    }
-    false
-}
-
-// What an occupied handle holds by the look at its slot.
-fn held_by(sight: Sight, slot: usize, value: u64) -> Held
-    ensures { λ r. ⌜ r ≡ heldBy slot value sight ⌝ }
-{
-    match sight {
-        Sight::Never => Held::Refused(Refusal::BadHandle),
-        Sight::Bad => Held::Refused(Refusal::Damaged),
-        Sight::Same => Held::Value(value, Occupied { slot }),
-        Sight::On => Held::Refused(Refusal::BadHandle),
-    }
-}
-
-// What an occupied handle of this slot holds for the key, where sizes fit.
-fn grip(
-    marks: &[u8],
-    offsets: &[u16],
-    lengths: &[u8],
-    values: &[u64],
-    arena: &[u8],
-    slot: usize,
-    key: &[u8],
-) -> Held
-    requires { ⌜ length (now values) ≡ length (now marks) ⌝ }
-    ensures { λ r. ⌜ r ≡ gripping (mapMemory (now (marks .entry)) (now (offsets .entry)) (now (lengths .entry)) (now (values .entry)) (now (arena .entry))) slot (now (key .entry)) ⌝ }
-{
-    if slot < marks.len() {
-        let sight = spans::look(marks, offsets, lengths, arena, slot, key);
-        return held_by(sight, slot, values[slot]);
-    }
-    Held::Refused(Refusal::BadHandle)
-}
-
-// The plan of an occupied handle's get and set: the value in the slot, or a refusal.
-fn hold(
-    marks: &[u8],
-    offsets: &[u16],
-    lengths: &[u8],
-    values: &[u64],
-    arena: &[u8],
-    slot: usize,
-    key: &[u8],
-) -> Held
-    ensures { λ r. ⌜ r ≡ holding (mapMemory (now (marks .entry)) (now (offsets .entry)) (now (lengths .entry)) (now (values .entry)) (now (arena .entry))) slot (now (key .entry)) ⌝ }
-{
-    if map_fits(marks, offsets, lengths, values, arena) {
-        if spans::may_ask(key) {
-            return grip(marks, offsets, lengths, values, arena, slot, key);
-        }
-        return Held::Refused(Refusal::LongKey);
-    }
-    Held::Refused(Refusal::Sizes)
-}
-
-// What a removal makes of a handle's test, where so many bytes are used.
-fn pulled_by(held: Held, used: usize) -> Pulled
-    ensures { λ r. ⌜ r ≡ pulledBy used held ⌝ }
-{
-    match held {
-        Held::Value(value, _) => Pulled::Out(value, used),
-        Held::Refused(r) => Pulled::Refused(r),
-    }
-}
-
-// The plan of an occupied handle's removal: every slot is examined, then the handle's.
-fn pull(
-    marks: &[u8],
-    offsets: &[u16],
-    lengths: &[u8],
-    values: &[u64],
-    arena: &[u8],
-    slot: usize,
-    key: &[u8],
-) -> Pulled
-    ensures { λ r. ⌜ r ≡ pulling (mapMemory (now (marks .entry)) (now (offsets .entry)) (now (lengths .entry)) (now (values .entry)) (now (arena .entry))) slot (now (key .entry)) ⌝ }
-{
-    if map_fits(marks, offsets, lengths, values, arena) {
-        if spans::may_ask(key) {
-            let found = spans::survey(marks, offsets, lengths, arena);
-            match found {
-                Surveyed::Used(used) => {
-                    let held = grip(marks, offsets, lengths, values, arena, slot, key);
-                    return pulled_by(held, used);
-                }
-                Surveyed::Bad => return Pulled::Refused(Refusal::Damaged),
-            }
-        }
-        return Pulled::Refused(Refusal::LongKey);
-    }
-    Pulled::Refused(Refusal::Sizes)
-}
-
-impl Occupied {
-    // The value in the slot.
-    pub fn get(
-        self,
-        marks: &[u8],
-        offsets: &[u16],
-        lengths: &[u8],
-        values: &[u64],
-        arena: &[u8],
-        key: &[u8],
-    ) -> Held
-        ensures { λ r. ⌜ heldNumbers r ≡ heldOf maps (mapMemory (now (marks .entry)) (now (offsets .entry)) (now (lengths .entry)) (now (values .entry)) (now (arena .entry))) (self .slot) (now (key .entry)) ⌝ }
-    {
-        hold(marks, offsets, lengths, values, arena, self.slot, key)
-    }
-
-    // Gives the slot another value; the old one is answered.
-    pub fn set(
-        self,
-        marks: &mut [u8],
-        offsets: &mut [u16],
-        lengths: &mut [u8],
-        values: &mut [u64],
-        arena: &mut [u8],
-        key: &[u8],
-        value: u64,
-    ) -> Swapped
-        ensures { λ r. ⌜ told (swappedNumbers r) (mapMemory (now (marks .exit)) (now (offsets .exit)) (now (lengths .exit)) (now (values .exit)) (now (arena .exit))) ≡ setOf maps (mapMemory (now (marks .entry)) (now (offsets .entry)) (now (lengths .entry)) (now (values .entry)) (now (arena .entry))) (self .slot) (now (key .entry)) value ⌝ }
-    {
-        let slot = self.slot;
-        let held = hold(marks, offsets, lengths, values, arena, slot, key);
-        match held {
-            Held::Value(old, _) => {
-                values[slot] = value;
-                Swapped::Was(old, Occupied { slot })
-            }
-            Held::Refused(r) => Swapped::Refused(r),
-        }
-    }
-
-    // Frees the slot; its value is answered.
-    pub fn remove(
-        self,
-        marks: &mut [u8],
-        offsets: &mut [u16],
-        lengths: &mut [u8],
-        values: &mut [u64],
-        arena: &mut [u8],
-        key: &[u8],
-    ) -> Taken
-        ensures { λ r. ⌜ told (takenNumbers r) (mapMemory (now (marks .exit)) (now (offsets .exit)) (now (lengths .exit)) (now (values .exit)) (now (arena .exit))) ≡ takenOf maps (mapMemory (now (marks .entry)) (now (offsets .entry)) (now (lengths .entry)) (now (values .entry)) (now (arena .entry))) (self .slot) (now (key .entry)) ⌝ }
-    {
-        let slot = self.slot;
-        let plan = pull(marks, offsets, lengths, values, arena, slot, key);
-        match plan {
-            Pulled::Out(old, used) => {
-                values[slot] = 0;
-                arena::free(marks, offsets, lengths, arena, slot, used);
-                Taken::Removed(old)
-            }
-            Pulled::Refused(r) => Taken::Refused(r),
-        }
-    }
-
-    // Frees the slot; its value is answered, and its key is the one given.
-    pub fn remove_entry(
-        self,
-        marks: &mut [u8],
-        offsets: &mut [u16],
-        lengths: &mut [u8],
-        values: &mut [u64],
-        arena: &mut [u8],
-        key: &[u8],
-    ) -> Taken
-        ensures { λ r. ⌜ told (takenNumbers r) (mapMemory (now (marks .exit)) (now (offsets .exit)) (now (lengths .exit)) (now (values .exit)) (now (arena .exit))) ≡ takenOf maps (mapMemory (now (marks .entry)) (now (offsets .entry)) (now (lengths .entry)) (now (values .entry)) (now (arena .entry))) (self .slot) (now (key .entry)) ⌝ }
-    {
-        self.remove(marks, offsets, lengths, values, arena, key)
-    }
-}
-
-// What a vacant handle of this slot makes of insert's plan: it is good where insert would use that very slot.
-fn fresh_by(plan: Placed, slot: usize) -> Fresh
-    ensures { λ r. ⌜ r ≡ freshBy slot plan ⌝ }
-{
-    match plan {
-        Placed::Free(free, _, used) => {
-            if slot == free {
-                return Fresh::Used(used);
-            }
-            return Fresh::Refused(Refusal::BadHandle);
-        }
-        Placed::Hit(_, _) => return Fresh::Refused(Refusal::BadHandle),
-        Placed::Refused(r) => {
-            if 6 < answers::number(r) {
-                return Fresh::Refused(Refusal::BadHandle);
-            }
-            return Fresh::Refused(r);
-        }
-    }
-}
-
-impl Vacant {
-    // Puts the key and a value into the slot, where insert would use that very slot.
-    pub fn insert(
-        self,
-        marks: &mut [u8],
-        offsets: &mut [u16],
-        lengths: &mut [u8],
-        values: &mut [u64],
-        arena: &mut [u8],
-        key: &[u8],
-        value: u64,
-    ) -> Standing
-        ensures { λ r. ⌜ told (standingNumbers r) (mapMemory (now (marks .exit)) (now (offsets .exit)) (now (lengths .exit)) (now (values .exit)) (now (arena .exit))) ≡ standingOf maps (mapMemory (now (marks .entry)) (now (offsets .entry)) (now (lengths .entry)) (now (values .entry)) (now (arena .entry))) (self .slot) (now (key .entry)) value ⌝ }
-    {
-        let slot = self.slot;
-        let plan = find_place(marks, offsets, lengths, values, arena, key);
-        let worth = fresh_by(plan, slot);
-        match worth {
-            Fresh::Used(used) => {
-                values[slot] = value;
-                arena::fill(marks, offsets, lengths, arena, slot, used, key);
-                Standing::Now(Occupied { slot }, value)
-            }
-            Fresh::Refused(r) => Standing::Refused(r),
-        }
     }
 }
 
@@ -359,7 +73,7 @@ impl Entered {
             return self.place(marks.len())
                 .insert(marks, offsets, lengths, values, arena, key, default);
         };
-        let held = hold(marks, offsets, lengths, values, arena, handle.slot, key);
+        let held = handle.get(marks, offsets, lengths, values, arena, key);
         match held {
             Held::Value(value, _) => Standing::Now(handle, value),
             Held::Refused(r) => Standing::Refused(r),

@@ -125,6 +125,11 @@ module _ (m : Strings values) where
     unfolding removeOf after-remove removedBy removedSaid removedNumbers
     remove-refused q = rw (remove-is, q)
 
+-- right sizes: the keys' part fits
+pub sized-fits : (m : Strings values) {b : Bool} → b ≡ sizedOf maps m → b ≡ true → fitting (m .spans) ≡ true
+unfolding sizedOf
+sized-fits m p q = both (fitting (m .spans)) (eqb (length (m .spans .marks)) (length (m .words))) (sym p ∙ q) .0
+
 -- right sizes: as many offsets, lengths and values as marks
 pub same-long : (m : Strings values) {b : Bool} → b ≡ sizedOf maps m → b ≡ true → (length (m .spans .offsets) ≡ length (m .spans .marks)) × (length (m .spans .lengths) ≡ length (m .spans .marks)) × (length (m .words) ≡ length (m .spans .marks))
 unfolding sizedOf

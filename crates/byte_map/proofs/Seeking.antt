@@ -63,7 +63,7 @@ module _ (m : Strings values) where
     unfolding whereLong
     short-is h = rw (ne-eqb (length (m .spans .marks)) (length (m .words)) h)
 
-    by-long : {B : Type 0} (f : A → B) (x : B) → (eqb (length (m .spans .marks)) (length (m .words)) ≡ true → x ≡ f a) → (eqb (length (m .spans .marks)) (length (m .words)) ≡ false → x ≡ f n) → x ≡ f (whereLong m a n)
+    pub by-long : {B : Type 0} (f : A → B) (x : B) → (eqb (length (m .spans .marks)) (length (m .words)) ≡ true → x ≡ f a) → (eqb (length (m .spans .marks)) (length (m .words)) ≡ false → x ≡ f n) → x ≡ f (whereLong m a n)
     unfolding whereLong
     by-long f x long short = by-bool (eqb (length (m .spans .marks)) (length (m .words))) (λ e. rw e (long e)) (λ e. rw e (short e))
 

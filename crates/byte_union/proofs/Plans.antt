@@ -1,44 +1,37 @@
 -- The union's tests over the spans are those of its definition.
 use Prim.Native.Nat.{ℕ, zero, suc, _-_, _≤_}
-use mathlib.Core.Bool.{Bool, true, false, cond, not, _&&_}
+use mathlib.Core.Bool.{Bool, true, false, cond, not}
 use mathlib.Core.List.{List}
 use mathlib.Core.Path.{_≡_, refl, sym, _∙_, ap, fun-ext}
 use native.Mathlib.Omega.{arith}
-use borrow.Author.Tests.{leb-true}
 use lib.Dec.{ltb, leb, eqb}
 use lib.ListN.{length}
 use Rattle.model.specs.Slots.{weigh, total, count}
 use Rattle.model.specs.Path.{Find, hit, miss, hurt}
 use Rattle.model.specs.Store.{path, live-count, used, hurtful}
 use Rattle.model.specs.Calls.{Or, no, ok, need, give, missed, lacking, needs, ruined, union}
-use Rattle.model.proofs.Cases.{by-bool, both}
+use Rattle.model.proofs.Cases.{by-bool}
 use Rattle.answers.specs.declared.Refusal.the-variants.{Sizes}
-use Rattle.digest.specs.Home.{homeOf, slotsFit}
+use Rattle.digest.specs.Home.{homeOf}
 use Rattle.kinds.specs.Columns.{values}
 use Rattle.kinds.specs.Marks.{cell}
 use Rattle.kinds.specs.Probing.{along}
-use Rattle.spans.specs.Memory.{Spans, Strings, arenaLimit, keyAt, slotsOf, bare, usedOf, harmful, fitting}
+use Rattle.spans.specs.Memory.{Spans, Strings, keyAt, slotsOf, bare, usedOf, harmful, fitting}
 use Rattle.spans.specs.Marks.{markAt}
 use Rattle.spans.specs.Kinds.{maps}
 use Rattle.spans.specs.Probing.{pathOf}
 use Rattle.spans.proofs.Bridge.{path-is, used-is}
 use Rattle.spans.proofs.Held.{bare-damaged, unharmed-whole}
 use Rattle.spans.proofs.Marks.{slot-cell}
+use Rattle.spans.proofs.Sizes.{fitting-says}
+use Rattle.byte_map.specs.Seeking.{sizedOf}
 use Rattle.byte_union.specs.declared.Planned.{Planned}
 use Rattle.byte_union.specs.declared.Planned.the-variants.{Go, Refused}
-use Rattle.byte_union.specs.Needs.{missing, lackOf, lacksOf, roomOf, planned, fittingMap, planOf}
+use Rattle.byte_union.specs.Needs.{missing, lackOf, lacksOf, roomOf, planned, planOf}
 
--- right sizes: both tests, and few slots
-pub sized-fits : (m : Strings values) {b : Bool} → b ≡ fittingMap m → b ≡ true → fitting (m .spans) ≡ true
-unfolding fittingMap
-sized-fits m p q = both (fitting (m .spans)) (eqb (length (m .spans .marks)) (length (m .words))) (sym p ∙ q) .0
-
+-- right sizes: few slots
 pub few-slots : (s : Spans) → fitting s ≡ true → length (s .marks) ≤ 4096
-unfolding fitting
-few-slots s f =
-    let (a, b) = both (slotsFit (length (s .marks))) (eqb (length (s .marks)) (length (s .offsets)) && (eqb (length (s .marks)) (length (s .lengths)) && leb (length (s .arena)) arenaLimit)) f in
-    let (c, d) = both (ltb 0 (length (s .marks))) (leb (length (s .marks)) 4096) a in
-    leb-true (length (s .marks)) 4096 d
+few-slots s f = fitting-says s f .few
 
 -- a key is absent by its path exactly where the probing misses it
 missed-along : (S h : ℕ) (x : Find ℕ) → missed maps x ≡ missing (along S h x)
@@ -88,18 +81,18 @@ unfolding give need
 give-need v true n a = refl
 give-need v false n a = refl
 
-module _ (l r : Strings values) {b : Bool} (p : b ≡ fittingMap l) where
+module _ (l r : Strings values) {b : Bool} (p : b ≡ sizedOf maps l) where
   -- sizes
   pub left-unfit : b ≡ false → planned (Refused Sizes) ≡ planOf l r
-  unfolding planned planOf union need give fittingMap
+  unfolding planned planOf union need give sizedOf
   left-unfit q = rw (sym p ∙ q)
 
-  module _ (q : b ≡ true) {c : Bool} (s : c ≡ fittingMap r) where
+  module _ (q : b ≡ true) {c : Bool} (s : c ≡ sizedOf maps r) where
     pub right-unfit : c ≡ false → planned (Refused Sizes) ≡ planOf l r
-    unfolding planned planOf union need give fittingMap
+    unfolding planned planOf union need give sizedOf
     right-unfit t = rw (sym p ∙ q, sym s ∙ t)
 
     -- the rest of the tests
     pub room-plan : {o : Or ℕ} → c ≡ true → o ≡ roomOf (l .spans) (r .spans) → o ≡ planOf l r
-    unfolding planOf roomOf lacksOf union need give fittingMap
+    unfolding planOf roomOf lacksOf union need give sizedOf
     room-plan t e = e ∙ (rw (sym p ∙ q, sym s ∙ t, ruined-is l, ruined-is r, needs-are (λ k. 1) l r, needs-are length l r, live-is l, used-is values l, give-need, give-need, give-need, give-need))

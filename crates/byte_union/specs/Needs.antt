@@ -53,10 +53,6 @@ unfoldable pub planned : Planned → Or ℕ
 planned (Go u) = ok u
 planned (Refused x) = no (numberOf x)
 
--- Whether a map is of right sizes.
-unfoldable pub fittingMap : Strings values → Bool
-fittingMap m = maps .sized m
-
 -- The union's tests: its answer, with the left's `used` where it is accepted.
 unfoldable pub planOf : Strings values → Strings values → Or ℕ
 planOf l r = give (usedOf (l .spans)) (union maps l r)

@@ -9,16 +9,16 @@ ghost use Rattle.kinds.specs.Calls.{unionOf};
 ghost use Rattle.kinds.specs.Told.{told};
 ghost use Rattle.spans.specs.Memory.{spansOf, fitting, usedOf};
 ghost use Rattle.spans.specs.Kinds.{maps, mapMemory};
-ghost use Rattle.byte_union.specs.Needs.{neededBy, lackAt, lacksOf, planned, roomOf, fittingMap, planOf};
+ghost use Rattle.byte_union.specs.Needs.{neededBy, lackAt, lacksOf, planned, roomOf, planOf};
 ghost use Rattle.byte_union.specs.Stores.{Ready, Storable, pairAt, pairsOf, slotStored, allStored};
 use answers::Outcome;
 use answers::Refusal;
 use arena::fill;
+use byte_map::map_fits;
 use kinds::Probed;
 use kinds::Scanned;
 use spans::Surveyed;
 use spans::byte_at;
-use spans::fits;
 use spans::mark_at;
 use spans::offset_at;
 use spans::probe;
@@ -130,7 +130,7 @@ fn room(
     right_lengths: &[u8],
     right_arena: &[u8],
 ) -> Planned
-    requires { ⌜ (fitting (spansOf (now marks) (now offsets) (now lengths) (now arena)) ≡ true) × (length (now «right_marks») ≤ 4096) ⌝ }
+    requires { ⌜ (fitting (spansOf (now marks) (now offsets) (now lengths) (now arena)) ≡ true) × (fitting (spansOf (now «right_marks») (now «right_offsets») (now «right_lengths») (now «right_arena»)) ≡ true) ⌝ }
     ensures { λ r. ⌜ planned r ≡ roomOf (spansOf (now (marks .entry)) (now (offsets .entry)) (now (lengths .entry)) (now (arena .entry))) (spansOf (now («right_marks» .entry)) (now («right_offsets» .entry)) (now («right_lengths» .entry)) (now («right_arena» .entry))) ⌝ }
 {
     let found = survey(marks, offsets, lengths, arena);
@@ -162,16 +162,6 @@ fn room(
         return Planned::Refused(Refusal::NoBytes);
     }
     Planned::Refused(Refusal::NoSlot)
-}
-
-// Whether a map's lent arrays are of right sizes.
-fn map_fits(marks: &[u8], offsets: &[u16], lengths: &[u8], values: &[u64], arena: &[u8]) -> bool
-    ensures { λ r. ⌜ r ≡ fittingMap (mapMemory (now (marks .entry)) (now (offsets .entry)) (now (lengths .entry)) (now (values .entry)) (now (arena .entry))) ⌝ }
-{
-    if fits(marks, offsets, lengths, arena) {
-        return marks.len() == values.len();
-    }
-    false
 }
 
 // The union's tests.

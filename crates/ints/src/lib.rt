@@ -1,6 +1,6 @@
 // Integer slots: sizes, the look at a slot, the probing loop, the scan, and the next live slot. Maps and sets share them.
 ghost use mathlib.Core.Path.{_≡_};
-ghost use Prim.Native.Nat.{_<_};
+ghost use Prim.Native.Nat.{_<_, _≤_};
 ghost use lib.ListN.{length};
 ghost use Rattle.model.specs.Path.{find};
 ghost use Rattle.kinds.specs.Probing.{lookOf, along};
@@ -19,7 +19,6 @@ use kinds::count_mark;
 use kinds::ended_at;
 use kinds::first_free;
 use kinds::next_slot;
-use kinds::passed_free;
 
 // Whether marks and keys are of one length that a table may have.
 pub fn fits(marks: &[u8], keys: &[u64]) -> bool
@@ -35,19 +34,19 @@ pub fn fits(marks: &[u8], keys: &[u64]) -> bool
 fn look(mark: u8, held: u64, key: u64) -> Sight
     ensures { λ r. ⌜ r ≡ lookOf integers key mark held ⌝ }
 {
+    if mark == 1 {
+        if held == key {
+            return Sight::Same;
+        }
+        return Sight::Other;
+    }
     if mark == 0 {
         return Sight::Never;
     }
-    if 2 < mark {
-        return Sight::Bad;
-    }
     if mark == 2 {
-        return Sight::On;
+        return Sight::Freed;
     }
-    if held == key {
-        return Sight::Same;
-    }
-    Sight::On
+    Sight::Bad
 }
 
 // The path of a key from its home slot, slot by slot: each break is an answer.
@@ -63,15 +62,16 @@ fn walk_path(marks: &[u8], keys: &[u64], key: u64, home: usize) -> Probed
         if n == size {
             break ended_at(free, size, n);
         }
-        let mark = marks[slot];
-        let sight = look(mark, keys[slot], key);
+        let sight = look(marks[slot], keys[slot], key);
         match sight {
             Sight::Never => break ended_at(first_free(free, slot, size), size, n + 1),
+            Sight::Freed => {
+                free = first_free(free, slot, size);
+            }
             Sight::Bad => break Probed::Refused(Refusal::Damaged),
             Sight::Same => break Probed::Hit(slot, n + 1),
-            Sight::On => {}
+            Sight::Other => {}
         }
-        free = passed_free(mark, free, slot, size);
         slot = next_slot(slot, size);
         n += 1;
     }
@@ -105,15 +105,13 @@ pub fn scan(marks: &[u8]) -> Scanned
     Scanned::Live(live)
 }
 
-// The first live or damaged slot from `at` on, before `end`; beyond the marks there is none.
+// The first live or damaged slot from `at` on, before `end`.
 pub fn next_live(marks: &[u8], at: usize, end: usize) -> Next
+    requires { ⌜ end ≤ length (now marks) ⌝ }
     ensures { λ r. ⌜ r ≡ nexting (now (marks .entry)) at end ⌝ }
 {
     let mut i = at;
     while i < end {
-        if marks.len() <= i {
-            return Next::Nothing;
-        }
         let here = marks[i];
         if here == 1 {
             return Next::Live(i);

@@ -11,12 +11,12 @@ use Rattle.model.specs.Path as path
 use Rattle.model.proofs.Cases.{by-bool, by-lt}
 use Rattle.model.proofs.Path.{at-below, probe-find}
 use Rattle.answers.specs.declared.Refusal.the-variants.{Damaged}
-use Rattle.kinds.specs.declared.Sight.the-variants.{Never, Bad, Same, On}
+use Rattle.kinds.specs.declared.Sight.the-variants.{Never, Freed, Bad, Same, Other}
 use Rattle.kinds.specs.declared.Sight.{Sight}
 use Rattle.kinds.specs.declared.Probed.{Probed}
 use Rattle.kinds.specs.declared.Probed.the-variants.{Hit, Refused}
 use Rattle.kinds.specs.Marks.{cell, keysOnly}
-use Rattle.kinds.specs.Probing.{lookAt, lookOf, firstFree, passedFree, nextSlot, ended, along, onSight, trail}
+use Rattle.kinds.specs.Probing.{lookAt, lookOf, firstFree, nextSlot, ended, along, onSight, trail}
 
 -- the slot of the first free place, S where there is none
 unfoldable freeSlot : ℕ → ℕ → ℕ → ℕ
@@ -50,8 +50,8 @@ module _ (S h : ℕ) (inside : h < S) where
   module _ {K : Type 0} (E : Keys K) (k : K) where
     one-slot : (n f : ℕ) → n < S → (mark : ℕ) (held : K) (r : ℕ → Probed) (q : ℕ → path.Find (Unit {0}))
         → ((x : ℕ) → r (freeSlot S h x) ≡ along S h (q x))
-        → onSight S (path.at S h n) n (freeSlot S h f) mark (lookOf E k mark held) r ≡ along S h (path.onSlot E S k n f (cell mark held tt) q)
-    unfolding lookOf lookAt cell onSight passedFree path.onSlot along
+        → onSight S (path.at S h n) n (freeSlot S h f) (lookOf E k mark held) r ≡ along S h (path.onSlot E S k n f (cell mark held tt) q)
+    unfolding lookOf lookAt cell onSight path.onSlot along
     one-slot n f l zero held r q e = rw (free-first f n l) (free-end (path.firstFree S f n) (suc n))
     one-slot n f l (suc zero) held r q e = by-bool (E .same k held) (λ p. rw p) (λ p. rw p (e f))
     one-slot n f l (suc (suc zero)) held r q e = rw (free-first f n l) (e (path.firstFree S f n))
@@ -79,7 +79,7 @@ module _ {K : Type 0} (E : Keys K) (mark : ℕ → ℕ) (key : ℕ → K) where
   -- after one slot more
   turn : (S : ℕ) (k : K) (slot n free : ℕ) → n < S
       → trail E mark key S k (S - n) slot n free
-      ≡ onSight S slot n free (mark slot) (lookOf E k (mark slot) (key slot)) (λ f. trail E mark key S k (S - (n + 1)) (nextSlot S slot) (n + 1) f)
+      ≡ onSight S slot n free (lookOf E k (mark slot) (key slot)) (λ f. trail E mark key S k (S - (n + 1)) (nextSlot S slot) (n + 1) f)
   unfolding trail
   turn S k slot n free l = let e : S - n ≡ suc (S - (n + 1)) = omega arith in rw (e, add-one)
 
@@ -116,10 +116,20 @@ module _ {K : Type 0} {E : Keys K} {mark : ℕ → ℕ} {key : ℕ → K} {S : �
     on-same e = rw (← w .gives, turn E mark key S k slot n free l, ← look, e, add-one)
 
     -- any other slot: the rest of the path
-    pub on-on : {f s : ℕ} → x ≡ On → f ≡ passedFree S free slot (mark slot) → s ≡ nextSlot S slot → OnTrail E mark key S k s (n + 1) f a
-    unfolding onSight
-    on-on {f} {s} e p q = record {
-      inside = rw q (next-below S slot (w .inside));
-      within = omega arith;
-      gives = rw (← w .gives, turn E mark key S k slot n free l, ← look, e, p, q);
-    }
+    module _ {f s : ℕ} (q : s ≡ nextSlot S slot) where
+      onwards : ((r : ℕ → Probed) → r f ≡ onSight S slot n free x r) → OnTrail E mark key S k s (n + 1) f a
+      onwards go = record {
+        inside = rw q (next-below S slot (w .inside));
+        within = omega arith;
+        gives = rw (← w .gives, turn E mark key S k slot n free l, ← look, q) (go (λ g. trail E mark key S k (S - (n + 1)) (nextSlot S slot) (n + 1) g));
+      }
+
+      -- a freed slot
+      pub on-freed : x ≡ Freed → f ≡ firstFree S free slot → OnTrail E mark key S k s (n + 1) f a
+      unfolding onSight
+      on-freed e p = onwards (λ r. rw (e, p))
+
+      -- a live slot with another key
+      pub on-other : x ≡ Other → f ≡ free → OnTrail E mark key S k s (n + 1) f a
+      unfolding onSight
+      on-other e p = onwards (λ r. rw (e, p))

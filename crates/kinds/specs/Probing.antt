@@ -1,12 +1,12 @@
 -- What a probing loop yields: the path's own answer, in slots, and the same path step by step as the loop takes it.
 use Prim.Native.Nat.{ℕ, zero, suc, _+_}
 use mathlib.Core.Bool.{cond}
-use lib.Dec.{ltb, eqb}
+use lib.Dec.{ltb}
 use Rattle.model.specs.Slots.{Slot, never, freed, bad, live, Keys}
 use Rattle.model.specs.Path.{Find, hit, miss, hurt, at}
 use Rattle.answers.specs.declared.Refusal.the-variants.{Damaged}
 use Rattle.kinds.specs.declared.Sight.{Sight}
-use Rattle.kinds.specs.declared.Sight.the-variants.{Never, Bad, Same, On}
+use Rattle.kinds.specs.declared.Sight.the-variants.{Never, Freed, Bad, Same, Other}
 use Rattle.kinds.specs.declared.Probed.{Probed}
 use Rattle.kinds.specs.declared.Probed.the-variants.{Hit, Free, Full, Refused}
 use Rattle.kinds.specs.Marks.{cell}
@@ -14,9 +14,9 @@ use Rattle.kinds.specs.Marks.{cell}
 -- What a slot says to the path of a key.
 unfoldable pub lookAt : {K W : Type 0} → Keys K → K → Slot K W → Sight
 lookAt E k never = Never
-lookAt E k freed = On
+lookAt E k freed = Freed
 lookAt E k bad = Bad
-lookAt E k (live a v) = cond (E .same k a) Same On
+lookAt E k (live a v) = cond (E .same k a) Same Other
 
 -- The same of a slot with this mark and key.
 unfoldable pub lookOf : {K : Type 0} → Keys K → K → ℕ → K → Sight
@@ -25,10 +25,6 @@ lookOf E k mark held = lookAt E k (cell mark held (tt {0}))
 -- The first free slot so far: f where one is known, else the slot.
 unfoldable pub firstFree : ℕ → ℕ → ℕ → ℕ
 firstFree S f slot = cond (ltb f S) f slot
-
--- The first free slot so far, after a slot with this mark, which is not 0.
-unfoldable pub passedFree : ℕ → ℕ → ℕ → ℕ → ℕ
-passedFree S f slot mark = cond (eqb mark 2) (firstFree S f slot) f
 
 -- The slot after this one, wrapping at S.
 unfoldable pub nextSlot : ℕ → ℕ → ℕ
@@ -44,16 +40,17 @@ along S h (hit n v) = Hit (at S h n) (suc n)
 along S h (miss e f) = cond (ltb f S) (Free (at S h f) e) (Full e)
 along S h hurt = Refused Damaged
 
--- One slot of the loop, by its mark and the look at it: an answer, or the rest with the first free slot so far.
-unfoldable pub onSight : ℕ → ℕ → ℕ → ℕ → ℕ → Sight → (ℕ → Probed) → Probed
-onSight S slot n free mark Never rest = ended S (firstFree S free slot) (suc n)
-onSight S slot n free mark Bad rest = Refused Damaged
-onSight S slot n free mark Same rest = Hit slot (suc n)
-onSight S slot n free mark On rest = rest (passedFree S free slot mark)
+-- One slot of the loop, by the look at it: an answer, or the rest with the first free slot so far.
+unfoldable pub onSight : ℕ → ℕ → ℕ → ℕ → Sight → (ℕ → Probed) → Probed
+onSight S slot n free Never rest = ended S (firstFree S free slot) (suc n)
+onSight S slot n free Freed rest = rest (firstFree S free slot)
+onSight S slot n free Bad rest = Refused Damaged
+onSight S slot n free Same rest = Hit slot (suc n)
+onSight S slot n free Other rest = rest free
 
 -- The loop from a slot on, over any marks and keys: g slots are left, n were examined.
 unfoldable pub trail : {K : Type 0} → Keys K → (ℕ → ℕ) → (ℕ → K) → ℕ → K → ℕ → ℕ → ℕ → ℕ → Probed
 trail E mark key S k zero slot n free = ended S free n
 trail E mark key S k (suc g) slot n free =
-    onSight S slot n free (mark slot) (lookOf E k (mark slot) (key slot))
+    onSight S slot n free (lookOf E k (mark slot) (key slot))
     (λ f. trail E mark key S k g (nextSlot S slot) (suc n) f)

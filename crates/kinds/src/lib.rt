@@ -1,15 +1,17 @@
 // What all kinds of tables share: the answers of probing, scan and look ahead, and the small steps of their loops.
 ghost use mathlib.Core.Path.{_≡_};
+ghost use Prim.Native.Nat.{_<_};
 ghost use Rattle.kinds.specs.Marks.{counted};
-ghost use Rattle.kinds.specs.Probing.{firstFree, passedFree, nextSlot, ended};
+ghost use Rattle.kinds.specs.Probing.{firstFree, nextSlot, ended};
 use answers::Refusal;
 
-// What the look at a slot of a path says: never used, damaged, live with the key, or go on.
+// What the look at a slot of a path says: never used, freed, damaged, live with the key, or live with another.
 pub enum Sight {
     Never,
+    Freed,
     Bad,
     Same,
-    On,
+    Other,
 }
 
 // What a path found: the key's slot, the first free slot, or neither, each with the examined number; or a refusal.
@@ -43,24 +45,13 @@ pub fn first_free(free: usize, slot: usize, size: usize) -> usize
     slot
 }
 
-// The first free slot after a slot with this mark, which is not 0.
-pub fn passed_free(mark: u8, free: usize, slot: usize, size: usize) -> usize
-    ensures { λ r. ⌜ r ≡ passedFree size free slot mark ⌝ }
-{
-    if mark == 2 {
-        return first_free(free, slot, size);
-    }
-    free
-}
-
 // The slot after this one, wrapping.
 pub fn next_slot(slot: usize, size: usize) -> usize
+    requires { ⌜ slot < size ⌝ }
     ensures { λ r. ⌜ r ≡ nextSlot size slot ⌝ }
 {
-    if slot < size {
-        if slot + 1 < size {
-            return slot + 1;
-        }
+    if slot + 1 < size {
+        return slot + 1;
     }
     0
 }

@@ -6,8 +6,8 @@ ghost use Rattle.kinds.specs.Calls.{entryOf, heldOf, setOf, takenOf, standingOf
 ghost use Rattle.spans.specs.Kinds.{maps, mapMemory};
 ghost use Rattle.numbers.specs.Handed.{handleAs};
 use answers::Numbers;
-use byte_entry::Occupied;
-use byte_entry::Vacant;
+use byte_handles::Occupied;
+use byte_handles::Vacant;
 use numbers::byte_entries::entered;
 use numbers::byte_entries::entered_numbers;
 use numbers::byte_entries::held_numbers;

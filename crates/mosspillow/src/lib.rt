@@ -3,12 +3,10 @@ ghost use mathlib.Core.Path.{_≡_};
 ghost use Rattle.answers.specs.Numbers.{homedNumbers};
 ghost use Rattle.digest.specs.Digest.{digestOf};
 ghost use Rattle.digest.specs.Home.{homedOf};
-ghost use Rattle.mosspillow.specs.Returned.{returned};
-use answers::Homed;
-use answers::Numbers;
-use answers::number;
+ghost use Rattle.numbers.specs.Returned.{returned};
 use digest::digest;
 use digest::home;
+use numbers::home_word;
 
 pub mod byte_entries;
 pub mod byte_maps;
@@ -16,9 +14,6 @@ pub mod byte_sets;
 pub mod int_entries;
 pub mod int_maps;
 pub mod int_sets;
-
-// What is added to a refusal's number where C is handed one word.
-const REFUSED: u64 = 65536;
 
 // The digest of these bytes, of any length.
 #[no_mangle]
@@ -33,9 +28,5 @@ pub extern "C" fn moss_digest(bytes: &[u8]) -> u64
 pub extern "C" fn moss_home(bytes: &[u8], slots: u64) -> u64
     ensures { λ r. ⌜ r ≡ returned (homedNumbers (homedOf 0 slots (now (bytes .entry)))) ⌝ }
 {
-    let answer = home(bytes, slots, 0);
-    match answer {
-        Homed::At(slot) => slot,
-        Homed::Refused(refusal) => REFUSED + number(refusal),
-    }
+    home_word(home(bytes, slots, 0))
 }

@@ -1,2 +1,3 @@
--- What is handed over in place of an entry answer, and for a step.
+-- What is handed over in place of an entry answer, for a step, and for a home slot.
 pub mod Handed
+pub mod Returned

@@ -1,6 +1,7 @@
 // The byte map's entries: the numbers of their answers, and the entry answer that a case number and a slot are.
 ghost use mathlib.Core.Path.{_≡_};
-ghost use Rattle.byte_entry.specs.Numbers.{enteredNumbers, heldNumbers, swappedNumbers, takenNumbers, standingNumbers};
+ghost use Rattle.byte_entry.specs.Numbers.{enteredNumbers};
+ghost use Rattle.byte_handles.specs.Numbers.{heldNumbers, swappedNumbers, takenNumbers, standingNumbers};
 ghost use Rattle.byte_entry.specs.Calls.{handleOf};
 ghost use Rattle.numbers.specs.Handed.{Hands};
 use answers::Numbers;
@@ -8,12 +9,12 @@ use answers::Refusal;
 use answers::case_numbers;
 use answers::refusal_numbers;
 use byte_entry::Entered;
-use byte_entry::Held;
-use byte_entry::Occupied;
-use byte_entry::Standing;
-use byte_entry::Swapped;
-use byte_entry::Taken;
-use byte_entry::Vacant;
+use byte_handles::Held;
+use byte_handles::Occupied;
+use byte_handles::Standing;
+use byte_handles::Swapped;
+use byte_handles::Taken;
+use byte_handles::Vacant;
 
 // The numbers of entry.
 pub fn entered_numbers(a: Entered) -> Numbers

@@ -1,8 +1,12 @@
-// The answers of entries and walks as the record of the paper's numbers, in which C has them.
+// The answers of entries and walks as the record of the paper's numbers, in which C has them, and a home slot as one word.
 ghost use mathlib.Core.Path.{_≡_};
+ghost use Rattle.answers.specs.Numbers.{homedNumbers};
 ghost use Rattle.answers.specs.Said.{handed};
 ghost use Rattle.numbers.specs.Handed.{walked};
+ghost use Rattle.numbers.specs.Returned.{returned};
+use answers::Homed;
 use answers::Numbers;
+use answers::number;
 
 pub mod byte_entries;
 pub mod byte_maps;
@@ -10,6 +14,19 @@ pub mod byte_sets;
 pub mod int_entries;
 pub mod int_maps;
 pub mod int_sets;
+
+// What is added to a refusal's number where C is handed one word.
+const REFUSED: u64 = 65536;
+
+// The slot, or 65,536 plus the number of the refusal.
+pub fn home_word(answer: Homed) -> u64
+    ensures { λ r. ⌜ r ≡ returned (homedNumbers answer) ⌝ }
+{
+    match answer {
+        Homed::At(slot) => slot,
+        Homed::Refused(refusal) => REFUSED + number(refusal),
+    }
+}
 
 // The numbers of a step that left its walk at this slot.
 fn walk_numbers(

@@ -16,9 +16,10 @@ use Rattle.kinds.specs.declared.Probed.the-variants.{Refused}
 use Rattle.spans.specs.Memory.{Spans, fitting, arenaLimit, askedOf, keptOf}
 use Rattle.spans.specs.Probing.{pathFrom, pathOf, probing}
 
--- Marks, offsets and lengths of one length that is not 0, and an arena within its limit.
+-- Marks, offsets and lengths of one length that is not 0 and within its limit, and an arena within its own.
 pub record Sized (s : Spans) : Type 0 where
   pub some : 0 < length (s .marks)
+  pub few : length (s .marks) ≤ 4096
   pub offsets : length (s .offsets) ≡ length (s .marks)
   pub lengths : length (s .lengths) ≡ length (s .marks)
   pub arena : length (s .arena) ≤ 32768
@@ -33,6 +34,7 @@ module _ (s : Spans) where
       let (h, k) = both (ltb 0 (length (s .marks))) (leb (length (s .marks)) 4096) a in
       record {
         some = ltb-true 0 (length (s .marks)) h;
+        few = leb-true (length (s .marks)) 4096 k;
         offsets = sym (eqb-true (length (s .marks)) (length (s .offsets)) c);
         lengths = sym (eqb-true (length (s .marks)) (length (s .lengths)) e);
         arena = leb-true (length (s .arena)) arenaLimit g;
@@ -66,9 +68,9 @@ kept-test k = asked-test k
 
 -- the probing, by the tests of sizes and key
 module _ (s : Spans) (k : List ℕ) {b : Bool} (p : b ≡ fitting s) where
-  -- where sizes fit, a key's home slot is one of the table's
-  pub home-fits : {h : ℕ} → b ≡ true → h ≡ homeOf 0 (length (s .marks)) k → h < length (s .marks)
-  home-fits q e = rw e (home-below 0 (length (s .marks)) k (fitting-says s (sym p ∙ q) .some))
+  -- where sizes fit, a key's home slot is one of the table's, and each slot has an offset and a length
+  pub home-fits : {h : ℕ} → b ≡ true → h ≡ homeOf 0 (length (s .marks)) k → (h < length (s .marks)) × (length (s .offsets) ≡ length (s .marks)) × (length (s .lengths) ≡ length (s .marks))
+  home-fits q e = let z = fitting-says s (sym p ∙ q) in (rw e (home-below 0 (length (s .marks)) k (z .some)), z .offsets, z .lengths)
 
   pub probing-unfit : b ≡ false → Refused Sizes ≡ probing s k
   unfolding probing

@@ -1,5 +1,6 @@
 // Byte tables without their values: sizes, the words of a slot, the probing loop, the scan, the survey, and the plans of insert and remove.
 ghost use mathlib.Core.Path.{_≡_};
+ghost use mathlib.Core.Bool.{true};
 ghost use Prim.Native.Nat.{_+_, _-_, _≤_, _<_};
 ghost use lib.Dec.{eqb, leb};
 ghost use lib.ListN.{length, getD, set};
@@ -9,7 +10,7 @@ ghost use Rattle.spans.specs.Marks.{markAt};
 ghost use Rattle.spans.specs.Probing.{sightAt, pathFrom, probing};
 ghost use Rattle.spans.specs.Planning.{placedBy, placing, locatedBy, locating};
 ghost use Rattle.spans.specs.Scanning.{scanning, nexting};
-ghost use Rattle.spans.specs.Surveying.{liveLength, higherEnd, surveying};
+ghost use Rattle.spans.specs.Surveying.{higherEnd, surveying};
 use answers::Refusal;
 use digest::KEY_LIMIT;
 use digest::slot_of_key;
@@ -22,7 +23,6 @@ use kinds::count_mark;
 use kinds::ended_at;
 use kinds::first_free;
 use kinds::next_slot;
-use kinds::passed_free;
 
 // The most bytes that an arena has.
 pub const ARENA_LIMIT: usize = 32768;
@@ -158,24 +158,28 @@ pub fn look(
     slot: usize,
     key: &[u8],
 ) -> Sight
+    requires { ⌜ (slot < length (now marks)) × (length (now offsets) ≡ length (now marks)) × (length (now lengths) ≡ length (now marks)) ⌝ }
     ensures { λ r. ⌜ r ≡ sightAt (spansOf (now (marks .entry)) (now (offsets .entry)) (now (lengths .entry)) (now (arena .entry))) (now (key .entry)) slot ⌝ }
 {
-    let mark = mark_at(marks, offsets, lengths, arena, slot);
+    let mark = marks[slot];
+    if mark == 1 {
+        let start = offsets[slot] as usize;
+        let end = start + (lengths[slot] as usize);
+        if arena.len() < end {
+            return Sight::Bad;
+        }
+        if same_bytes(&arena[start..end], key) {
+            return Sight::Same;
+        }
+        return Sight::Other;
+    }
     if mark == 0 {
         return Sight::Never;
     }
-    if 2 < mark {
-        return Sight::Bad;
-    }
     if mark == 2 {
-        return Sight::On;
+        return Sight::Freed;
     }
-    let start = offset_at(offsets, slot) as usize;
-    let end = end_at(offsets, lengths, slot);
-    if same_bytes(&arena[start..end], key) {
-        return Sight::Same;
-    }
-    Sight::On
+    Sight::Bad
 }
 
 // The path of a key from its home slot, slot by slot: each break is an answer.
@@ -187,7 +191,7 @@ fn walk_path(
     key: &[u8],
     home: usize,
 ) -> Probed
-    requires { ⌜ home < length (now marks) ⌝ }
+    requires { ⌜ (home < length (now marks)) × (length (now offsets) ≡ length (now marks)) × (length (now lengths) ≡ length (now marks)) ⌝ }
     ensures { λ r. ⌜ r ≡ pathFrom (spansOf (now (marks .entry)) (now (offsets .entry)) (now (lengths .entry)) (now (arena .entry))) home (now (key .entry)) ⌝ }
 {
     let size = marks.len();
@@ -201,11 +205,13 @@ fn walk_path(
         let sight = look(marks, offsets, lengths, arena, slot, key);
         match sight {
             Sight::Never => break ended_at(first_free(free, slot, size), size, n + 1),
+            Sight::Freed => {
+                free = first_free(free, slot, size);
+            }
             Sight::Bad => break Probed::Refused(Refusal::Damaged),
             Sight::Same => break Probed::Hit(slot, n + 1),
-            Sight::On => {}
+            Sight::Other => {}
         }
-        free = passed_free(marks[slot], free, slot, size);
         slot = next_slot(slot, size);
         n += 1;
     }
@@ -270,47 +276,37 @@ pub fn next_live(
     Next::Nothing
 }
 
-// What a slot with this mark and length adds to `used`.
-fn live_len(mark: u8, length: u16) -> usize
-    ensures { λ r. ⌜ r ≡ liveLength mark length ⌝ }
+// The largest end of a live span so far, after one more.
+fn higher_end(end: usize, top: usize) -> usize
+    ensures { λ r. ⌜ r ≡ higherEnd end top ⌝ }
 {
-    if mark == 1 {
-        return length as usize;
-    }
-    0
-}
-
-// The largest end of a live span so far, after a slot with this mark and end.
-fn higher_end(mark: u8, end: usize, top: usize) -> usize
-    ensures { λ r. ⌜ r ≡ higherEnd mark end top ⌝ }
-{
-    if mark == 1 {
-        if top < end {
-            return end;
-        }
-        return top;
+    if top < end {
+        return end;
     }
     top
 }
 
-// The survey of all slots: full damage, else `used`. A sum above the arena is damage at once, so it never overflows.
+// The survey of all slots: full damage, else `used`. No live span ends past the arena where none ends beyond `used`, and that is no more.
 pub fn survey(marks: &[u8], offsets: &[u16], lengths: &[u8], arena: &[u8]) -> Surveyed
+    requires { ⌜ fitting (spansOf (now marks) (now offsets) (now lengths) (now arena)) ≡ true ⌝ }
     ensures { λ r. ⌜ r ≡ surveying (spansOf (now (marks .entry)) (now (offsets .entry)) (now (lengths .entry)) (now (arena .entry))) ⌝ }
 {
     let mut used = 0;
     let mut top = 0;
     let mut i = 0;
     while i < marks.len() {
-        let mark = mark_at(marks, offsets, lengths, arena, i);
-        if 2 < mark {
+        let state = marks[i];
+        if state == 1 {
+            let len = lengths[i] as usize;
+            used += len;
+            top = higher_end((offsets[i] as usize) + len, top);
+        } else if 2 < state {
             return Surveyed::Bad;
         }
-        used += live_len(mark, len_at(lengths, i));
-        if arena.len() < used {
-            return Surveyed::Bad;
-        }
-        top = higher_end(mark, end_at(offsets, lengths, i), top);
         i += 1;
+    }
+    if arena.len() < used {
+        return Surveyed::Bad;
     }
     if used < top {
         return Surveyed::Bad;

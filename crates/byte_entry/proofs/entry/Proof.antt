@@ -1,20 +1,21 @@
 -- `byte_entry::entry` meets its contract: each way in which the plan ends is an answer.
-use Rattle.byte_entry.proofs.Places.{hit-inside, entry-hit, entry-free, entry-refused}
+use Rattle.byte_map.proofs.Seeking.{place-inside}
+use Rattle.byte_entry.proofs.Places.{entry-hit, entry-free, entry-refused}
 use borrow.Author.Needs.{needs}
 use Rattle.byte_entry.proofs.entry.Statement.{statement}
 use Rattle.byte_entry.proofs.entry.Tie as tie
 
-find-place-requires : tie.Need-find-place-requires
-find-place-requires c κs = search needs
+place-requires : tie.Need-place-requires
+place-requires c κs = search needs
 
 enum-known-plan : tie.Need-enum-known-plan
 enum-known-plan c = search needs
 
 mul-t15 : tie.Need-mul-t15
-mul-t15 c = let a = hit-inside _ _ (c .before .before .before .find-place .ensures) (c .before .plan .given .1) in search needs
+mul-t15 c = let a = place-inside _ _ (c .before .before .before .place .ensures) (c .before .plan .given .1) in search needs
 
 shared-slice-read-t17 : tie.Need-shared-slice-read-t17
-shared-slice-read-t17 c = hit-inside _ _ (c .before .before .before .before .find-place .ensures) (c .before .before .plan .given .1)
+shared-slice-read-t17 c = place-inside _ _ (c .before .before .before .before .place .ensures) (c .before .before .plan .given .1)
 
 enum-known-plan-2 : tie.Need-enum-known-plan-2
 enum-known-plan-2 c = search needs
@@ -23,19 +24,19 @@ enum-known-plan-3 : tie.Need-enum-known-plan-3
 enum-known-plan-3 c = search needs
 
 returns : tie.Need-returns
-returns c = entry-hit _ _ (c .before .before .before .before .find-place .ensures) (c .before .before .plan .given .1)
+returns c = entry-hit _ _ (c .before .before .before .before .place .ensures) (c .before .before .plan .given .1)
 
 returns-2 : tie.Need-returns-2
-returns-2 c = entry-free _ _ (c .before .before .before .find-place .ensures) (c .before .plan2 .given .1)
+returns-2 c = entry-free _ _ (c .before .before .before .place .ensures) (c .before .plan2 .given .1)
 
 returns-3 : tie.Need-returns-3
-returns-3 c = entry-refused _ _ (c .before .before .before .find-place .ensures) (c .before .plan3 .given .1)
+returns-3 c = entry-refused _ _ (c .before .before .before .place .ensures) (c .before .plan3 .given .1)
 
 pub entry-spec : {M : Type 1} → statement M
 entry-spec =
     tie.close
     (tie.spec
-    find-place-requires
+    place-requires
     enum-known-plan
     mul-t15
     shared-slice-read-t17

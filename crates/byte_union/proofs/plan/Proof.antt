@@ -1,6 +1,7 @@
 -- `byte_union::plan` meets its contract: the sizes of both, then damage and room.
 use borrow.Author.Needs.{needs}
-use Rattle.byte_union.proofs.Plans.{sized-fits, few-slots, left-unfit, right-unfit, room-plan}
+use Rattle.byte_map.proofs.Laws.{sized-fits}
+use Rattle.byte_union.proofs.Plans.{left-unfit, right-unfit, room-plan}
 use Rattle.byte_union.proofs.plan.Statement.{statement}
 use Rattle.byte_union.proofs.plan.Tie as tie
 
@@ -11,7 +12,7 @@ map-fits-requires-2 : tie.Need-map-fits-requires-2
 map-fits-requires-2 c κs = search needs
 
 room-requires : tie.Need-room-requires
-room-requires c κs = (sized-fits _ (c .before .before .before .map-fits .ensures) (c .before .before .if1 .taken), few-slots _ (sized-fits _ (c .before .map-fits2 .ensures) (c .if2 .taken)))
+room-requires c κs = (sized-fits _ (c .before .before .before .map-fits .ensures) (c .before .before .if1 .taken), sized-fits _ (c .before .map-fits2 .ensures) (c .if2 .taken))
 
 returns : tie.Need-returns
 returns c = room-plan _ _ (c .before .before .before .before .map-fits .ensures) (c .before .before .before .if1 .taken) (c .before .before .map-fits2 .ensures) (c .before .if2 .taken) (c .room .ensures)

@@ -1,5 +1,6 @@
 -- `byte_union::room` meets its contract: damage in either table, then what the right needs.
 use borrow.Author.Needs.{needs}
+use Rattle.byte_union.proofs.Plans.{few-slots}
 use Rattle.byte_union.proofs.Rooms.{live-scanned, used-inside, left-bad, right-bad, scan-none, room-slots, room-bytes, room-go}
 use Rattle.byte_union.proofs.room.Statement.{statement}
 use Rattle.byte_union.proofs.room.Tie as tie
@@ -41,7 +42,7 @@ returns-3 : tie.Need-returns-3
 returns-3 c = scan-none _ _ (c .before .before .before .before .before .before .before .before .before .survey .ensures) (c .before .before .before .before .before .before .before .found .given .1) (c .before .before .before .before .before .survey2 .ensures) (c .before .before .scan .ensures) (c .enum-told4 .given .1)
 
 lacks-requires : tie.Need-lacks-requires
-lacks-requires c κs = c .before .before .before .before .before .before .before .before .before .before .before .before .before .before .before .before .before .before .before .pre
+lacks-requires c κs = (c .before .before .before .before .before .before .before .before .before .before .before .before .before .before .before .before .before .before .before .pre .0, few-slots _ (c .before .before .before .before .before .before .before .before .before .before .before .before .before .before .before .before .before .before .before .pre .1))
 
 sub-if1 : tie.Need-sub-if1
 sub-if1 c = live-scanned _ (c .before .before .before .before .scan .ensures) (c .before .before .seen .given .1) .1

@@ -6,7 +6,7 @@ use lib.ListN.{length, List·getD-eq-default}
 use borrow.Author.Needs.{needs}
 use Rattle.ints.specs.Scanning.{nexting}
 use Rattle.kinds.specs.Marks.{wordsOf}
-use Rattle.kinds.proofs.Scanning.{Ahead, ahead-start, ahead-live, ahead-bad, ahead-on, ahead-past, ahead-end}
+use Rattle.kinds.proofs.Scanning.{Ahead, ahead-start, ahead-live, ahead-bad, ahead-on, ahead-end}
 use Rattle.ints.proofs.next_live.Statement.{statement}
 use Rattle.ints.proofs.next_live.Tie as tie
 
@@ -20,17 +20,14 @@ loop-holds : tie.Need-loop-holds Inv-loop μ-loop
 unfolding nexting
 loop-holds c = ahead-start _ _ _ _ (λ j l. List·getD-eq-default (now (c .args .marks)) 0 l)
 
-returns : tie.Need-returns Inv-loop μ-loop
-returns c = ahead-past (c .before .before .loop .inv) (c .if1 .taken)
-
 shared-slice-read-here : tie.Need-shared-slice-read-here Inv-loop μ-loop
 shared-slice-read-here c = search needs
 
-returns-2 : tie.Need-returns-2 Inv-loop μ-loop
-returns-2 c = ahead-live (c .before .before .before .before .loop .inv) (c .before .before .before .loop-test .taken) refl (c .if2 .taken)
+returns : tie.Need-returns Inv-loop μ-loop
+returns c = ahead-live (c .before .before .before .loop .inv) (c .before .before .loop-test .taken) refl (c .if1 .taken)
 
-returns-3 : tie.Need-returns-3 Inv-loop μ-loop
-returns-3 c = ahead-bad (c .before .before .before .before .before .loop .inv) (c .before .before .before .before .loop-test .taken) refl (c .if3 .taken)
+returns-2 : tie.Need-returns-2 Inv-loop μ-loop
+returns-2 c = ahead-bad (c .before .before .before .before .loop .inv) (c .before .before .before .loop-test .taken) refl (c .if2 .taken)
 
 add-i : tie.Need-add-i Inv-loop μ-loop
 add-i c = search needs
@@ -39,10 +36,10 @@ loop-less : tie.Need-loop-less Inv-loop μ-loop
 loop-less c = search needs
 
 loop-again : tie.Need-loop-again Inv-loop μ-loop
-loop-again c = ahead-on (c .before .before .before .before .before .loop .inv) (c .before .before .before .before .loop-test .taken) refl (c .if3 .left) (c .before .if2 .left)
+loop-again c = ahead-on (c .before .before .before .before .loop .inv) (c .before .before .before .loop-test .taken) refl (c .if2 .left) (c .before .if1 .left)
 
-returns-4 : tie.Need-returns-4 Inv-loop μ-loop
-returns-4 c = ahead-end (c .before .loop .inv) (c .loop-test .left)
+returns-3 : tie.Need-returns-3 Inv-loop μ-loop
+returns-3 c = ahead-end (c .before .loop .inv) (c .loop-test .left)
 
 pub next-live-spec : {M : Type 1} → statement M
 next-live-spec =
@@ -51,11 +48,10 @@ next-live-spec =
     Inv-loop
     μ-loop
     loop-holds
-    returns
     shared-slice-read-here
+    returns
     returns-2
-    returns-3
     add-i
     loop-less
     loop-again
-    returns-4)
+    returns-3)

@@ -1,11 +1,13 @@
 -- `ints::walk_path` meets its contract. The loop's invariant: the rest of the trail gives the path's answer. The measure is how many slots are left.
 use Prim.Native.Nat.{_-_}
+use mathlib.Core.Logic.{⊎-elim}
+use mathlib.Core.Path.{_∙_}
 use lib.ListN.{length}
 use borrow.Author.Needs.{needs}
 use Rattle.model.specs.Path.{find}
 use Rattle.kinds.specs.Marks.{wordsOf}
 use Rattle.kinds.specs.Probing.{along}
-use Rattle.kinds.proofs.Trail.{OnTrail, at-home, round, on-never, on-bad, on-same, on-on}
+use Rattle.kinds.proofs.Trail.{OnTrail, at-home, round, on-never, on-bad, on-same, on-freed, on-other}
 use Rattle.ints.specs.Probing.{slotsIn}
 use Rattle.ints.specs.Memory.{integers}
 use Rattle.ints.proofs.walk_path.Statement.{statement}
@@ -23,14 +25,14 @@ loop-holds c = at-home integers _ _ _ _ _ (c .before .before .pre .0)
 ended-at-requires : tie.Need-ended-at-requires Inv-loop μ-loop
 ended-at-requires c κs = search needs
 
-shared-slice-read-mark : tie.Need-shared-slice-read-mark Inv-loop μ-loop
-shared-slice-read-mark c = search needs
+shared-slice-read-look : tie.Need-shared-slice-read-look Inv-loop μ-loop
+shared-slice-read-look c = search needs
 
 mul-look : tie.Need-mul-look Inv-loop μ-loop
 mul-look c = search needs
 
-shared-slice-read-look : tie.Need-shared-slice-read-look Inv-loop μ-loop
-shared-slice-read-look c = search needs
+shared-slice-read-look-2 : tie.Need-shared-slice-read-look-2 Inv-loop μ-loop
+shared-slice-read-look-2 c = search needs
 
 look-requires : tie.Need-look-requires Inv-loop μ-loop
 look-requires c κs = search needs
@@ -50,17 +52,20 @@ ended-at-requires-2 c κs = search needs
 enum-told-2 : tie.Need-enum-told-2 Inv-loop μ-loop
 enum-told-2 c = search needs
 
+first-free-requires-2 : tie.Need-first-free-requires-2 Inv-loop μ-loop
+first-free-requires-2 c κs = search needs
+
 enum-told-3 : tie.Need-enum-told-3 Inv-loop μ-loop
 enum-told-3 c = search needs
-
-add-t21 : tie.Need-add-t21 Inv-loop μ-loop
-add-t21 c = search needs
 
 enum-told-4 : tie.Need-enum-told-4 Inv-loop μ-loop
 enum-told-4 c = search needs
 
-passed-free-requires : tie.Need-passed-free-requires Inv-loop μ-loop
-passed-free-requires c κs = search needs
+add-t20 : tie.Need-add-t20 Inv-loop μ-loop
+add-t20 c = search needs
+
+enum-told-5 : tie.Need-enum-told-5 Inv-loop μ-loop
+enum-told-5 c = search needs
 
 next-slot-requires : tie.Need-next-slot-requires Inv-loop μ-loop
 next-slot-requires c κs = search needs
@@ -72,7 +77,11 @@ loop-less : tie.Need-loop-less Inv-loop μ-loop
 loop-less c = search needs
 
 loop-again : tie.Need-loop-again Inv-loop μ-loop
-loop-again c = on-on (c .before .before .before .before .before .before .before .before .loop .inv) (search needs) (c .before .before .before .before .look .ensures) (c .before .before .enum-told4 .given .1) (c .before .passed-free .ensures) (c .next-slot .ensures)
+loop-again c =
+    ⊎-elim
+    (λ w. on-freed (c .before .before .before .before .before .before .loop .inv) (search needs) (c .before .before .look .ensures) (c .next-slot .ensures) (w .1 .given .1) (w .3 ∙ w .2 .ensures))
+    (λ w. on-other (c .before .before .before .before .before .before .loop .inv) (search needs) (c .before .before .look .ensures) (c .next-slot .ensures) (w .1 .given .1) (w .2))
+    (c .before .match .came)
 
 returns : tie.Need-returns Inv-loop μ-loop
 returns c = round (c .before .before .loop .inv) (c .before .if1 .taken) (c .ended-at .ensures)
@@ -81,10 +90,10 @@ returns-2 : tie.Need-returns-2 Inv-loop μ-loop
 returns-2 c = on-never (c .before .before .before .before .before .before .before .before .loop .inv) (search needs) (c .before .before .before .before .look .ensures) (c .before .before .enum-told .given .1) (c .before .first-free .ensures) (c .ended-at2 .ensures)
 
 returns-3 : tie.Need-returns-3 Inv-loop μ-loop
-returns-3 c = on-bad (c .before .before .before .before .before .before .loop .inv) (search needs) (c .before .before .look .ensures) (c .enum-told2 .given .1)
+returns-3 c = on-bad (c .before .before .before .before .before .before .loop .inv) (search needs) (c .before .before .look .ensures) (c .enum-told3 .given .1)
 
 returns-4 : tie.Need-returns-4 Inv-loop μ-loop
-returns-4 c = on-same (c .before .before .before .before .before .before .loop .inv) (search needs) (c .before .before .look .ensures) (c .enum-told3 .given .1)
+returns-4 c = on-same (c .before .before .before .before .before .before .loop .inv) (search needs) (c .before .before .look .ensures) (c .enum-told4 .given .1)
 
 pub walk-path-spec : {M : Type 1} → statement M
 walk-path-spec =
@@ -94,19 +103,20 @@ walk-path-spec =
     μ-loop
     loop-holds
     ended-at-requires
-    shared-slice-read-mark
-    mul-look
     shared-slice-read-look
+    mul-look
+    shared-slice-read-look-2
     look-requires
     enum-told
     first-free-requires
     add-ended-at
     ended-at-requires-2
     enum-told-2
+    first-free-requires-2
     enum-told-3
-    add-t21
     enum-told-4
-    passed-free-requires
+    add-t20
+    enum-told-5
     next-slot-requires
     add-n
     loop-less

@@ -1,4 +1,5 @@
 -- `spans::locate` meets its contract: the tests in order, then the path.
+use mathlib.Core.Path.{sym, _∙_}
 use borrow.Author.Needs.{needs}
 use Rattle.spans.proofs.Sizes.{home-fits}
 use Rattle.spans.proofs.Plans.{locating-unfit, locating-long, locating-bad, locating-path}
@@ -12,7 +13,7 @@ may-ask-requires : tie.Need-may-ask-requires
 may-ask-requires c κs = search needs
 
 survey-requires : tie.Need-survey-requires
-survey-requires c κs = search needs
+survey-requires c κs = sym (c .before .before .before .fits2 .ensures) ∙ c .before .before .if1 .taken
 
 enum-known-found : tie.Need-enum-known-found
 enum-known-found c = search needs

@@ -1,30 +1,34 @@
--- `spans::look` meets its contract: each return is a mark, and for mark 1 a key.
+-- `spans::look` meets its contract: each return is a mark, and for mark 1 an end and a key.
+use mathlib.Core.Path.{refl}
 use native.Mathlib.Omega.{arith}
 use borrow.Author.Needs.{needs}
-use Rattle.spans.proofs.Sights.{sight-never, sight-bad, sight-freed, sight-within, sight-same, sight-on}
+use Rattle.spans.proofs.Sights.{sight-never, sight-freed, sight-bad, sight-past, sight-same, sight-other}
 use Rattle.spans.proofs.look.Statement.{statement}
 use Rattle.spans.proofs.look.Tie as tie
 
-mark-at-requires : tie.Need-mark-at-requires
-mark-at-requires c κs = search needs
+shared-slice-read-mark : tie.Need-shared-slice-read-mark
+shared-slice-read-mark c = search needs
 
-returns : tie.Need-returns
-returns c = sight-never _ _ _ (c .before .mark-at .ensures) (c .if1 .taken)
+mul-start : tie.Need-mul-start
+mul-start c = search needs
 
-returns-2 : tie.Need-returns-2
-returns-2 c = sight-bad _ _ _ (c .before .before .mark-at .ensures) (c .if2 .taken)
-
-returns-3 : tie.Need-returns-3
-returns-3 c = sight-freed _ _ _ (c .before .before .before .mark-at .ensures) (c .if3 .taken)
-
-offset-at-requires : tie.Need-offset-at-requires
-offset-at-requires c κs = search needs
+shared-slice-read-start : tie.Need-shared-slice-read-start
+shared-slice-read-start c = search needs
 
 cast-start : tie.Need-cast-start
-cast-start c = search needs
+cast-start c = omega (arith, c .shared-slice-known7 .given (c .before .before .before .before .before .before .before .before .args .slot))
 
-end-at-requires : tie.Need-end-at-requires
-end-at-requires c κs = search needs
+shared-slice-read-end : tie.Need-shared-slice-read-end
+shared-slice-read-end c = search needs
+
+cast-end : tie.Need-cast-end
+cast-end c = omega (arith, c .shared-slice-known8 .given (c .before .before .before .before .before .before .before .before .before .args .slot))
+
+add-end : tie.Need-add-end
+add-end c = omega (arith, c .shared-slice-known8 .given (c .before .before .before .before .before .before .before .before .before .args .slot), c .before .shared-slice-known7 .given (c .before .before .before .before .before .before .before .before .before .args .slot))
+
+returns : tie.Need-returns
+returns c = sight-past _ _ _ refl (c .before .before .before .if1 .taken) refl (c .if2 .taken)
 
 sub-same-bytes : tie.Need-sub-same-bytes
 sub-same-bytes c = search needs
@@ -33,31 +37,44 @@ part-same-bytes-start : tie.Need-part-same-bytes-start
 part-same-bytes-start c = search needs
 
 part-same-bytes-end : tie.Need-part-same-bytes-end
-part-same-bytes-end c = sight-within _ _ (c .before .before .before .before .before .mark-at .ensures) (c .before .before .before .before .if1 .left) (c .before .before .before .if2 .left) (c .before .before .if3 .left) (c .end-at .ensures)
+part-same-bytes-end c = search needs
 
 same-bytes-requires : tie.Need-same-bytes-requires
 same-bytes-requires c κs = search needs
 
+returns-2 : tie.Need-returns-2
+returns-2 c = sight-same _ _ _ refl (c .before .before .before .before .before .before .if1 .taken) refl (c .before .before .before .if2 .left) refl (c .before .same-bytes .ensures) (c .if3 .taken)
+
+returns-3 : tie.Need-returns-3
+returns-3 c = sight-other _ _ _ refl (c .before .before .before .before .before .before .if1 .taken) refl (c .before .before .before .if2 .left) refl (c .before .same-bytes .ensures) (c .if3 .left)
+
 returns-4 : tie.Need-returns-4
-returns-4 c = sight-same _ _ _ (c .before .before .before .before .before .before .before .before .mark-at .ensures) (c .before .before .before .before .before .before .before .if1 .left) (c .before .before .before .before .before .before .if2 .left) (c .before .before .before .before .before .if3 .left) (c .before .before .before .before .offset-at .ensures) (c .before .before .before .end-at .ensures) (c .before .same-bytes .ensures) (c .if4 .taken)
+returns-4 c = sight-never _ _ _ refl (c .if4 .taken)
 
 returns-5 : tie.Need-returns-5
-returns-5 c = sight-on _ _ _ (c .before .before .before .before .before .before .before .before .mark-at .ensures) (c .before .before .before .before .before .before .before .if1 .left) (c .before .before .before .before .before .before .if2 .left) (c .before .before .before .before .before .if3 .left) (c .before .before .before .before .offset-at .ensures) (c .before .before .before .end-at .ensures) (c .before .same-bytes .ensures) (c .if4 .left)
+returns-5 c = sight-freed _ _ _ refl (c .if5 .taken)
+
+returns-6 : tie.Need-returns-6
+returns-6 c = sight-bad _ _ _ refl (c .before .before .if1 .left) (c .before .if4 .left) (c .if5 .left)
 
 pub look-spec : {M : Type 1} → statement M
 look-spec =
     tie.close
     (tie.spec
-    mark-at-requires
-    returns
-    returns-2
-    returns-3
-    offset-at-requires
+    shared-slice-read-mark
+    mul-start
+    shared-slice-read-start
     cast-start
-    end-at-requires
+    shared-slice-read-end
+    cast-end
+    add-end
+    returns
     sub-same-bytes
     part-same-bytes-start
     part-same-bytes-end
     same-bytes-requires
+    returns-2
+    returns-3
     returns-4
-    returns-5)
+    returns-5
+    returns-6)

@@ -1,9 +1,12 @@
--- `spans::survey` meets its contract. The loop's invariant: no damage so far, the sum and the largest end. The measure is what is left of the length.
+-- `spans::survey` meets its contract. The loop's invariant: no mark above 2 so far, the sum and the largest end. The measure is what is left of the length.
 use borrow.Author.Needs.{needs}
 use Prim.Native.Nat.{_-_}
+use mathlib.Core.Logic.{⊎-elim}
+use mathlib.Core.Path.{refl, _∙_}
+use native.Mathlib.Omega.{arith}
 use lib.ListN.{length}
 use Rattle.spans.specs.Memory.{spansOf}
-use Rattle.spans.proofs.Surveys.{live-low, Surveying, survey-start, survey-bad, survey-over, survey-on, survey-beyond, survey-end}
+use Rattle.spans.proofs.Surveys.{Surveying, survey-start, survey-bad, survey-live, survey-pass, survey-over, survey-beyond, survey-end}
 use Rattle.spans.proofs.survey.Statement.{statement}
 use Rattle.spans.proofs.survey.Tie as tie
 
@@ -14,31 +17,37 @@ abbrev μ-loop : tie.MeasureT-loop
 μ-loop marks offsets lengths arena used₀ top₀ i₀ used top i = length marks - i
 
 loop-holds : tie.Need-loop-holds Inv-loop μ-loop
-loop-holds c = survey-start _
+loop-holds c = survey-start _ (c .before .before .before .before .pre)
 
-mark-at-requires : tie.Need-mark-at-requires Inv-loop μ-loop
-mark-at-requires c κs = search needs
+shared-slice-read-state : tie.Need-shared-slice-read-state Inv-loop μ-loop
+shared-slice-read-state c = search needs
 
-returns : tie.Need-returns Inv-loop μ-loop
-returns c = survey-bad (c .before .before .before .loop .inv) (c .before .before .loop-test .taken) (c .before .mark-at .ensures) (c .if1 .taken)
+shared-slice-read-len : tie.Need-shared-slice-read-len Inv-loop μ-loop
+shared-slice-read-len c = search needs
 
-len-at-requires : tie.Need-len-at-requires Inv-loop μ-loop
-len-at-requires c κs = search needs
-
-live-len-requires : tie.Need-live-len-requires Inv-loop μ-loop
-live-len-requires c κs = search needs
+cast-len : tie.Need-cast-len Inv-loop μ-loop
+cast-len c = omega (arith, c .shared-slice-known6 .given (c .before .before .before .before .loop .i))
 
 add-used : tie.Need-add-used Inv-loop μ-loop
-add-used c = let low = live-low _ _ (c .live-len .ensures) in search needs
+add-used c = omega (arith, c .shared-slice-known6 .given (c .before .before .before .before .loop .i))
 
-returns-2 : tie.Need-returns-2 Inv-loop μ-loop
-returns-2 c = survey-over (c .before .before .before .before .before .before .loop .inv) (c .before .before .before .before .before .loop-test .taken) (c .before .before .before .before .mark-at .ensures) (c .before .before .len-at .ensures) (c .before .live-len .ensures) (c .if2 .taken)
+mul-higher-end : tie.Need-mul-higher-end Inv-loop μ-loop
+mul-higher-end c = search needs
 
-end-at-requires : tie.Need-end-at-requires Inv-loop μ-loop
-end-at-requires c κs = search needs
+shared-slice-read-higher-end : tie.Need-shared-slice-read-higher-end Inv-loop μ-loop
+shared-slice-read-higher-end c = search needs
+
+cast-higher-end : tie.Need-cast-higher-end Inv-loop μ-loop
+cast-higher-end c = omega (arith, c .shared-slice-known7 .given (c .before .before .before .before .before .loop .i))
+
+add-higher-end : tie.Need-add-higher-end Inv-loop μ-loop
+add-higher-end c = omega (arith, c .shared-slice-known7 .given (c .before .before .before .before .before .loop .i), c .before .shared-slice-known6 .given (c .before .before .before .before .before .loop .i))
 
 higher-end-requires : tie.Need-higher-end-requires Inv-loop μ-loop
 higher-end-requires c κs = search needs
+
+returns : tie.Need-returns Inv-loop μ-loop
+returns c = survey-bad (c .before .before .before .before .loop .inv) (c .before .before .before .loop-test .taken) refl (c .if2 .taken) (c .before .if1 .left)
 
 add-i : tie.Need-add-i Inv-loop μ-loop
 add-i c = search needs
@@ -47,13 +56,20 @@ loop-less : tie.Need-loop-less Inv-loop μ-loop
 loop-less c = search needs
 
 loop-again : tie.Need-loop-again Inv-loop μ-loop
-loop-again c = survey-on (c .before .before .before .before .before .before .before .before .loop .inv) (c .before .before .before .before .before .before .before .loop-test .taken) (c .before .before .before .before .before .before .mark-at .ensures) (c .before .before .before .before .len-at .ensures) (c .before .before .before .live-len .ensures) (c .before .before .before .before .before .if1 .left) (c .before .before .if2 .left) (c .before .end-at .ensures) (c .higher-end .ensures)
+loop-again c =
+    ⊎-elim
+    (λ w. survey-live (c .before .before .before .loop .inv) (c .before .before .loop-test .taken) refl (w .0 .taken) refl (omega (arith, w .1 .given (c .before .before .before .loop .i))) refl (w .4) (w .5 ∙ w .3 .ensures))
+    (λ w. survey-pass (c .before .before .before .loop .inv) (c .before .before .loop-test .taken) refl (w .1 .left) (w .0 .left) (w .2) (w .3))
+    (c .if1 .came)
+
+returns-2 : tie.Need-returns-2 Inv-loop μ-loop
+returns-2 c = survey-over (c .before .before .loop .inv) (c .before .loop-test .left) (c .if3 .taken)
 
 returns-3 : tie.Need-returns-3 Inv-loop μ-loop
-returns-3 c = survey-beyond (c .before .before .loop .inv) (c .before .loop-test .left) (c .if3 .taken)
+returns-3 c = survey-beyond (c .before .before .before .loop .inv) (c .before .before .loop-test .left) (c .before .if3 .left) (c .if4 .taken)
 
 returns-4 : tie.Need-returns-4 Inv-loop μ-loop
-returns-4 c = survey-end (c .before .before .loop .inv) (c .before .loop-test .left) (c .if3 .left)
+returns-4 c = survey-end (c .before .before .before .loop .inv) (c .before .before .loop-test .left) (c .before .if3 .left) (c .if4 .left)
 
 pub survey-spec : {M : Type 1} → statement M
 survey-spec =
@@ -62,16 +78,19 @@ survey-spec =
     Inv-loop
     μ-loop
     loop-holds
-    mark-at-requires
-    returns
-    len-at-requires
-    live-len-requires
+    shared-slice-read-state
+    shared-slice-read-len
+    cast-len
     add-used
-    returns-2
-    end-at-requires
+    mul-higher-end
+    shared-slice-read-higher-end
+    cast-higher-end
+    add-higher-end
     higher-end-requires
+    returns
     add-i
     loop-less
     loop-again
+    returns-2
     returns-3
     returns-4)

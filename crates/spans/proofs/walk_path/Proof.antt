@@ -1,14 +1,14 @@
 -- `spans::walk_path` meets its contract. The loop's invariant: the rest of the trail gives the path's answer. The measure is how many slots are left.
 use Prim.Native.Nat.{_-_}
+use mathlib.Core.Logic.{⊎-elim}
 use mathlib.Core.Path.{_∙_}
 use lib.ListN.{length}
 use borrow.Author.Needs.{needs}
-use Rattle.kinds.proofs.Trail.{OnTrail, at-home, round, on-never, on-bad, on-same, on-on}
+use Rattle.kinds.proofs.Trail.{OnTrail, at-home, round, on-never, on-bad, on-same, on-freed, on-other}
 use Rattle.spans.specs.Keys.{byteKeys}
 use Rattle.spans.specs.Memory.{spansOf, keyAt}
 use Rattle.spans.specs.Marks.{markAt}
 use Rattle.spans.specs.Probing.{sightAt, pathFrom}
-use Rattle.spans.proofs.Sights.{passed-shown}
 use Rattle.spans.proofs.walk_path.Statement.{statement}
 use Rattle.spans.proofs.walk_path.Tie as tie
 
@@ -20,7 +20,7 @@ abbrev μ-loop : tie.MeasureT-loop
 
 loop-holds : tie.Need-loop-holds Inv-loop μ-loop
 unfolding pathFrom
-loop-holds c = at-home byteKeys _ _ _ _ _ (c .before .before .before .before .before .pre)
+loop-holds c = at-home byteKeys _ _ _ _ _ (c .before .before .before .before .before .pre .0)
 
 ended-at-requires : tie.Need-ended-at-requires Inv-loop μ-loop
 ended-at-requires c κs = search needs
@@ -43,20 +43,20 @@ ended-at-requires-2 c κs = search needs
 enum-told-2 : tie.Need-enum-told-2 Inv-loop μ-loop
 enum-told-2 c = search needs
 
+first-free-requires-2 : tie.Need-first-free-requires-2 Inv-loop μ-loop
+first-free-requires-2 c κs = search needs
+
 enum-told-3 : tie.Need-enum-told-3 Inv-loop μ-loop
 enum-told-3 c = search needs
-
-add-t17 : tie.Need-add-t17 Inv-loop μ-loop
-add-t17 c = search needs
 
 enum-told-4 : tie.Need-enum-told-4 Inv-loop μ-loop
 enum-told-4 c = search needs
 
-shared-slice-read-passed-free : tie.Need-shared-slice-read-passed-free Inv-loop μ-loop
-shared-slice-read-passed-free c = search needs
+add-t17 : tie.Need-add-t17 Inv-loop μ-loop
+add-t17 c = search needs
 
-passed-free-requires : tie.Need-passed-free-requires Inv-loop μ-loop
-passed-free-requires c κs = search needs
+enum-told-5 : tie.Need-enum-told-5 Inv-loop μ-loop
+enum-told-5 c = search needs
 
 next-slot-requires : tie.Need-next-slot-requires Inv-loop μ-loop
 next-slot-requires c κs = search needs
@@ -69,7 +69,11 @@ loop-less c = search needs
 
 loop-again : tie.Need-loop-again Inv-loop μ-loop
 unfolding sightAt
-loop-again c = on-on (c .before .before .before .before .before .before .before .loop .inv) (search needs) (c .before .before .before .before .before .look .ensures) (c .before .before .before .enum-told4 .given .1) (passed-shown _ _ _ _ (c .before .passed-free .ensures)) (c .next-slot .ensures)
+loop-again c =
+    ⊎-elim
+    (λ w. on-freed (c .before .before .before .before .loop .inv) (search needs) (c .before .before .look .ensures) (c .next-slot .ensures) (w .1 .given .1) (w .3 ∙ w .2 .ensures))
+    (λ w. on-other (c .before .before .before .before .loop .inv) (search needs) (c .before .before .look .ensures) (c .next-slot .ensures) (w .1 .given .1) (w .2))
+    (c .before .match .came)
 
 returns : tie.Need-returns Inv-loop μ-loop
 returns c = round (c .before .before .loop .inv) (c .before .if1 .taken) (c .ended-at .ensures)
@@ -80,11 +84,11 @@ returns-2 c = on-never (c .before .before .before .before .before .before .loop 
 
 returns-3 : tie.Need-returns-3 Inv-loop μ-loop
 unfolding sightAt
-returns-3 c = on-bad (c .before .before .before .before .loop .inv) (search needs) (c .before .before .look .ensures) (c .enum-told2 .given .1)
+returns-3 c = on-bad (c .before .before .before .before .loop .inv) (search needs) (c .before .before .look .ensures) (c .enum-told3 .given .1)
 
 returns-4 : tie.Need-returns-4 Inv-loop μ-loop
 unfolding sightAt
-returns-4 c = on-same (c .before .before .before .before .loop .inv) (search needs) (c .before .before .look .ensures) (c .enum-told3 .given .1)
+returns-4 c = on-same (c .before .before .before .before .loop .inv) (search needs) (c .before .before .look .ensures) (c .enum-told4 .given .1)
 
 pub walk-path-spec : {M : Type 1} → statement M
 walk-path-spec =
@@ -100,11 +104,11 @@ walk-path-spec =
     add-ended-at
     ended-at-requires-2
     enum-told-2
+    first-free-requires-2
     enum-told-3
-    add-t17
     enum-told-4
-    shared-slice-read-passed-free
-    passed-free-requires
+    add-t17
+    enum-told-5
     next-slot-requires
     add-n
     loop-less

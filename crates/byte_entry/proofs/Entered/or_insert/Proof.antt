@@ -31,8 +31,8 @@ same-length-5 c = search needs
 returns : tie.Need-returns
 returns c = or-insert-vacant _ _ _ _ (c .before .before .before .before .before .before .before .before .before .before .before .before .before .before .before .before .before .match .keys2) (c .before .before .before .before .before .before .before .before .before .before .before .before .before .before .before .before .place .ensures) (c .before .before .before .before .before .before .before .before .before .before .insert .ensures)
 
-hold-requires : tie.Need-hold-requires
-hold-requires c κs = search needs
+get-requires : tie.Need-get-requires
+get-requires c κs = search needs
 
 enum-known-held : tie.Need-enum-known-held
 enum-known-held c = search needs
@@ -56,7 +56,7 @@ same-length-10 : tie.Need-same-length-10
 same-length-10 c = search needs
 
 returns-2 : tie.Need-returns-2
-returns-2 c = or-insert-kept _ _ _ _ (c .before .before .before .before .before .before .before .before .before .before .self .given .1) (c .before .before .before .hold .ensures) (c .before .held .given .1)
+returns-2 c = or-insert-kept _ _ _ _ (c .before .before .before .before .before .before .before .before .before .before .self .given .1) (c .before .before .before .get .ensures) (c .before .held .given .1)
 
 same-length-11 : tie.Need-same-length-11
 same-length-11 c = search needs
@@ -74,7 +74,7 @@ same-length-15 : tie.Need-same-length-15
 same-length-15 c = search needs
 
 returns-3 : tie.Need-returns-3
-returns-3 c = or-insert-refused _ _ _ _ (c .before .before .before .before .before .before .before .before .before .before .self .given .1) (c .before .before .before .hold .ensures) (c .before .held2 .given .1)
+returns-3 c = or-insert-refused _ _ _ _ (c .before .before .before .before .before .before .before .before .before .before .self .given .1) (c .before .before .before .get .ensures) (c .before .held2 .given .1)
 
 pub or-insert-spec : {M : Type 1} → statement M
 or-insert-spec =
@@ -89,7 +89,7 @@ or-insert-spec =
     same-length-4
     same-length-5
     returns
-    hold-requires
+    get-requires
     enum-known-held
     enum-known-held-2
     same-length-6

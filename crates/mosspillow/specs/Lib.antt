@@ -1,2 +1,0 @@
--- What the C library hands back.
-pub mod Returned

@@ -1,0 +1,48 @@
+-- `home_word` meets its contract: each arm hands over its answer as the definition says.
+-- Assumes nothing.
+use mathlib.Core.Path.{_≡_}
+use Prim.Native.Nat.{ℕ, _+_}
+use native.Mathlib.Omega.{arith}
+use borrow.Author.Needs.{needs}
+use borrow.Author.Tests.{ne-eqb}
+use Rattle.answers.specs.declared.Refusal.{Refusal}
+use Rattle.answers.specs.declared.Homed.{Homed}
+use Rattle.answers.specs.declared.Homed.the-variants.{At, Refused}
+use Rattle.answers.specs.Refusals.{numberOf}
+use Rattle.answers.specs.Numbers.{homedNumbers}
+use Rattle.answers.proofs.Told.{numberOf-range}
+use Rattle.numbers.specs.Returned.{returned}
+use Rattle.numbers.proofs.home_word.Statement.{statement}
+use Rattle.numbers.proofs.home_word.Tie as tie
+
+-- An answer that is a slot is handed over as that slot.
+slot-returned : (a : Homed) (slot : ℕ) → a ≡ At slot → slot ≡ returned (homedNumbers a)
+slot-returned a slot p = rw p
+
+-- A refusal is handed over as 65,536 plus its number.
+refusal-returned : (a : Homed) (r : Refusal) (n : ℕ) → a ≡ Refused r → n ≡ numberOf r → 65536 + n ≡ returned (homedNumbers a)
+refusal-returned a r n p e =
+    let z : numberOf r ≡ 0 → ⊥ = λ z. omega (arith, numberOf-range r .0) in
+    rw (p, ne-eqb (numberOf r) 0 z, e)
+
+enum-known-answer : tie.Need-enum-known-answer
+enum-known-answer c = search needs
+
+enum-known-answer-2 : tie.Need-enum-known-answer-2
+enum-known-answer-2 c = search needs
+
+number-requires : tie.Need-number-requires
+number-requires c κs = search needs
+
+add-result : tie.Need-add-result
+add-result c = omega (arith, numberOf-range (c .before .before .answer2 .given .0 .0) .1)
+
+returns : tie.Need-returns
+returns c = slot-returned _ _ (c .before .answer .given .1)
+
+returns-2 : tie.Need-returns-2
+returns-2 c = refusal-returned _ _ _ (c .before .before .answer2 .given .1) (c .number .ensures)
+
+pub home-word-spec : {M : Type 1} → statement M
+home-word-spec =
+    tie.close (tie.spec enum-known-answer enum-known-answer-2 number-requires add-result returns returns-2)
