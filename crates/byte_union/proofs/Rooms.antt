@@ -1,37 +1,78 @@
 -- The union's tests of two tables of right sizes, one after the other.
-use Prim.Native.Nat.{ℕ, _-_, _≤_, _<_}
+use Prim.Native.Nat.{ℕ, zero, suc, _+_, _-_, _≤_, _<_}
 use mathlib.Core.Bool.{true, false}
-use mathlib.Core.Path.{_≡_, sym, _∙_}
+use mathlib.Core.List.{List}
+use mathlib.Core.Path.{_≡_, refl, sym, _∙_}
+use native.Mathlib.Numerals.{add-one}
 use native.Mathlib.Omega.{arith}
-use borrow.Author.Tests.{le-leb, lt-leb}
-use lib.ListN.{length}
-use Rattle.model.specs.Slots.{count}
-use Rattle.model.specs.Store.{live-count, hurtful}
+use borrow.Author.Tests.{le-leb, lt-leb, ne-eqb}
+use lib.ListN.{length, getD}
+use Rattle.model.specs.Slots.{weigh, hurts, total, count, damaged}
 use Rattle.model.specs.Calls.{need}
+use Rattle.model.proofs.Cases.{by-bool, by-lt}
 use Rattle.answers.specs.declared.Refusal.the-variants.{Damaged, NoSlot, NoBytes}
-use Rattle.kinds.specs.declared.Scanned.{Scanned}
-use Rattle.kinds.specs.declared.Scanned.the-variants as scanned
-use Rattle.kinds.specs.Columns.{nothing}
+use Rattle.kinds.specs.Marks.{cell, counted}
+use Rattle.kinds.proofs.Scanning.{cell-bad, counted-low}
 use Rattle.spans.specs.declared.Surveyed.{Surveyed}
 use Rattle.spans.specs.declared.Surveyed.the-variants as surveyed
-use Rattle.spans.specs.Memory.{Spans, bare, usedOf, harmful, Strings}
-use Rattle.spans.specs.Scanning.{scanning}
+use Rattle.spans.specs.Memory.{Spans, keyAt, bare, usedOf}
+use Rattle.spans.specs.Marks.{markAt}
 use Rattle.spans.specs.Surveying.{surveying}
-use Rattle.spans.proofs.Bridge.{scan-bad, scan-live}
 use Rattle.spans.proofs.Held.{unharmed-whole}
+use Rattle.spans.proofs.Marks.{mark-raw, slot-cell}
 use Rattle.spans.proofs.Plans.{surveyed-bad, surveyed-used, used-within}
 use Rattle.byte_union.specs.declared.Needed.{Needed}
 use Rattle.byte_union.specs.declared.Planned.the-variants.{Go, Refused}
-use Rattle.byte_union.specs.Needs.{lacksOf, planned, roomOf}
+use Rattle.byte_union.specs.Needs.{lacksOf, livesOf, planned, roomOf}
 
--- the spans as a set
-abbrev bareSet : Spans → Strings nothing
-bareSet s = record { spans = s; words = tt }
+-- a mark counts what its slot weighs
+cell-counts : (m : ℕ) (k : List ℕ) → weigh (λ x. 1) (cell m k (tt {0})) ≡ counted m
+unfolding weigh cell counted
+cell-counts zero k = refl
+cell-counts (suc zero) k = refl
+cell-counts (suc (suc zero)) k = refl
+cell-counts (suc (suc (suc m))) k = rw (ne-eqb (suc (suc (suc m))) 1 (omega arith))
 
--- the scan counts the live slots, and there are no more than slots
-pub live-scanned : (s : Spans) {x : Scanned} {n : ℕ} → x ≡ scanning s → x ≡ scanned.Live n → (count (bare s) (length (s .marks)) ≡ n) × (n ≤ length (s .marks))
-unfolding live-count
-live-scanned s p q = let (a, b, c) = scan-live nothing (bareSet s) p q in (b, c)
+-- a slot that is not damaged shows its mark
+whole-mark : (s : Spans) (i : ℕ) → hurts (bare s i) ≡ false → markAt s i ≡ getD (s .marks) i 0
+unfolding hurts
+whole-mark s i h = by-lt 2 (markAt s i)
+    (λ l e. let z : true ≡ false = rw (slot-cell s (λ j. tt {0}) i, cell-bad (markAt s i) (keyAt s i) (tt {0}) l) at h in let y : _≡_ {A = ℕ} 0 1 = cc in absurd (omega arith))
+    (λ l e. mark-raw s i l)
+
+-- so where none is damaged, the marks count the live slots
+marks-count : (s : Spans) (n : ℕ) → damaged (bare s) n ≡ false → count (bare s) n ≡ livesOf (s .marks) n
+unfolding total damaged livesOf
+marks-count s zero h = refl
+marks-count s (suc n) h = by-bool (hurts (bare s n))
+    (λ e. let z : true ≡ false = rw e at h in let y : _≡_ {A = ℕ} 0 1 = cc in absurd (omega arith))
+    (λ e. rw (marks-count s n (rw e at h), slot-cell s (λ j. tt {0}) n, cell-counts (markAt s n) (keyAt s n), whole-mark s n e))
+
+-- the count's state: so many of the first i marks are 1
+pub record Counting (marks : List ℕ) (live i : ℕ) : Type 0 where
+  pub low : live ≤ i
+  pub within : i ≤ length marks
+  pub lives : live ≡ livesOf marks i
+
+pub count-start : (marks : List ℕ) → Counting marks 0 0
+unfolding livesOf
+count-start marks = record { low = omega arith; within = omega arith; lives = refl }
+
+module _ {marks : List ℕ} {live i : ℕ} (w : Counting marks live i) where
+  pub count-more : {r : ℕ} → i < length marks → r ≡ counted (getD marks i 0) → Counting marks (live + r) (i + 1)
+  unfolding livesOf
+  count-more l e = record { low = omega (arith, counted-low (getD marks i 0) e); within = omega arith; lives = rw (add-one, e, w .lives) }
+
+  pub count-end : length marks ≤ i → live ≡ livesOf marks (length marks)
+  count-end l = let e : length marks ≡ i = omega (arith, w .within) in rw e (w .lives)
+
+lives-low : (marks : List ℕ) (n : ℕ) → livesOf marks n ≤ n
+unfolding livesOf
+lives-low marks zero = omega arith
+lives-low marks (suc n) = omega (arith, lives-low marks n, counted-low (getD marks n 0) refl)
+
+pub lives-within : (marks : List ℕ) {n : ℕ} → n ≡ livesOf marks (length marks) → n ≤ length marks
+lives-within marks e = omega (arith, lives-low marks (length marks))
 
 -- the bytes that a survey found are in the arena
 pub used-inside : (s : Spans) {x : Surveyed} {u : ℕ} → x ≡ surveying s → x ≡ surveyed.Used u → u ≤ length (s .arena)
@@ -49,26 +90,22 @@ module _ (l r : Spans) {x : Surveyed} (p : x ≡ surveying l) where
     unfolding planned roomOf need
     right-bad t = rw (surveyed-used l p q .0, surveyed-bad r s t)
 
-    -- the scan finds none
-    pub scan-none : {z : Scanned} → z ≡ scanning l → z ≡ scanned.Bad → planned (Refused Damaged) ≡ roomOf l r
-    unfolding hurtful
-    scan-none w t =
-        let a : true ≡ false = sym (scan-bad nothing (bareSet l) w t) ∙ unharmed-whole l (surveyed-used l p q .0) in
-        let b : _≡_ {A = ℕ} 0 1 = cc in absurd (omega arith)
+    module _ {v n : ℕ} {a : Needed} (t : y ≡ surveyed.Used v) (w : n ≡ livesOf (l .marks) (length (l .marks))) (e : a ≡ lacksOf l r (length (r .marks))) where
+      lives-are : count (bare l) (length (l .marks)) ≡ n
+      lives-are = marks-count l (length (l .marks)) (unharmed-whole l (surveyed-used l p q .0)) ∙ sym w
 
-    module _ {v n : ℕ} {z : Scanned} {a : Needed} (t : y ≡ surveyed.Used v) (w : z ≡ scanning l) (d : z ≡ scanned.Live n) (e : a ≡ lacksOf l r (length (r .marks))) where
       -- too few slots
       pub room-slots : length (l .marks) - n < a .slots → planned (Refused NoSlot) ≡ roomOf l r
       unfolding planned roomOf need
-      room-slots h = rw (surveyed-used l p q .0, surveyed-used r s t .0, ← e, live-scanned l w d .0, lt-leb (a .slots) (length (l .marks) - n) h)
+      room-slots h = rw (surveyed-used l p q .0, surveyed-used r s t .0, ← e, lives-are, lt-leb (a .slots) (length (l .marks) - n) h)
 
       module _ (h : a .slots ≤ length (l .marks) - n) where
         -- too few bytes
         pub room-bytes : length (l .arena) - u < a .bytes → planned (Refused NoBytes) ≡ roomOf l r
         unfolding planned roomOf need
-        room-bytes i = rw (surveyed-used l p q .0, surveyed-used r s t .0, ← e, live-scanned l w d .0, le-leb (a .slots) (length (l .marks) - n) h, ← surveyed-used l p q .1, lt-leb (a .bytes) (length (l .arena) - u) i)
+        room-bytes i = rw (surveyed-used l p q .0, surveyed-used r s t .0, ← e, lives-are, le-leb (a .slots) (length (l .marks) - n) h, ← surveyed-used l p q .1, lt-leb (a .bytes) (length (l .arena) - u) i)
 
         -- or room for the right's keys
         pub room-go : a .bytes ≤ length (l .arena) - u → planned (Go u) ≡ roomOf l r
         unfolding planned roomOf need
-        room-go i = rw (surveyed-used l p q .0, surveyed-used r s t .0, ← e, live-scanned l w d .0, le-leb (a .slots) (length (l .marks) - n) h, ← surveyed-used l p q .1, le-leb (a .bytes) (length (l .arena) - u) i)
+        room-go i = rw (surveyed-used l p q .0, surveyed-used r s t .0, ← e, lives-are, le-leb (a .slots) (length (l .marks) - n) h, ← surveyed-used l p q .1, le-leb (a .bytes) (length (l .arena) - u) i)

@@ -1,15 +1,16 @@
 -- What the union of byte maps needs of its left, slot by slot of its right, and its tests of two tables of right sizes.
-use Prim.Native.Nat.{ℕ, _-_}
+use Prim.Native.Nat.{ℕ, zero, suc, _+_, _-_}
 use mathlib.Core.Bool.{Bool, true, false, cond, not}
 use mathlib.Core.List.{List}
 use lib.Dec.{leb}
-use lib.ListN.{length}
+use lib.ListN.{length, getD}
 use Rattle.model.specs.Slots.{weigh, total, count}
 use Rattle.model.specs.Calls.{Or, no, ok, need, give, union}
 use Rattle.answers.specs.Refusals.{numberOf}
 use Rattle.kinds.specs.declared.Probed.{Probed}
 use Rattle.kinds.specs.declared.Probed.the-variants as probed
 use Rattle.kinds.specs.Columns.{values}
+use Rattle.kinds.specs.Marks.{counted}
 use Rattle.spans.specs.Memory.{Spans, Strings, bare, usedOf, harmful}
 use Rattle.spans.specs.Kinds.{maps}
 use Rattle.spans.specs.Probing.{pathOf}
@@ -47,6 +48,11 @@ module _ (l r : Spans) where
       need (not (harmful l)) 5 (need (not (harmful r)) 5
       (need (leb (lacksOf (length (r .marks)) .slots) (length (l .marks) - count (bare l) (length (l .marks)))) 7
       (need (leb (lacksOf (length (r .marks)) .bytes) (length (l .arena) - usedOf l)) 8 (ok (usedOf l)))))
+
+-- How many of the first n marks are 1.
+unfoldable pub livesOf : List ℕ → ℕ → ℕ
+livesOf marks zero = 0
+livesOf marks (suc n) = livesOf marks n + counted (getD marks n 0)
 
 -- What a plan says: the left's `used`, or a refusal's number.
 unfoldable pub planned : Planned → Or ℕ

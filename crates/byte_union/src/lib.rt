@@ -9,20 +9,19 @@ ghost use Rattle.kinds.specs.Calls.{unionOf};
 ghost use Rattle.kinds.specs.Told.{told};
 ghost use Rattle.spans.specs.Memory.{spansOf, fitting, usedOf};
 ghost use Rattle.spans.specs.Kinds.{maps, mapMemory};
-ghost use Rattle.byte_union.specs.Needs.{neededBy, lackAt, lacksOf, planned, roomOf, planOf};
+ghost use Rattle.byte_union.specs.Needs.{neededBy, lackAt, lacksOf, livesOf, planned, roomOf, planOf};
 ghost use Rattle.byte_union.specs.Stores.{Ready, Storable, pairAt, pairsOf, slotStored, allStored};
 use answers::Outcome;
 use answers::Refusal;
 use arena::fill;
 use byte_map::map_fits;
 use kinds::Probed;
-use kinds::Scanned;
+use kinds::count_mark;
 use spans::Surveyed;
 use spans::byte_at;
 use spans::mark_at;
 use spans::offset_at;
 use spans::probe;
-use spans::scan;
 use spans::survey;
 
 // What the left has to have room for: so many slots, and so many bytes.
@@ -119,6 +118,19 @@ fn lacks(
     Needed { slots, bytes }
 }
 
+// How many marks are 1: the live slots, where none is damaged.
+fn lives(marks: &[u8]) -> usize
+    ensures { λ r. ⌜ r ≡ livesOf (now (marks .entry)) (length (now (marks .entry))) ⌝ }
+{
+    let mut live = 0;
+    let mut i = 0;
+    while i < marks.len() {
+        live += count_mark(marks[i]);
+        i += 1;
+    }
+    live
+}
+
 // The union's tests of two tables of right sizes: damage in either, then slots, then bytes.
 fn room(
     marks: &[u8],
@@ -141,10 +153,7 @@ fn room(
     let Surveyed::Used(_) = other else {
         return Planned::Refused(Refusal::Damaged);
     };
-    let seen = scan(marks, offsets, lengths, arena);
-    let Scanned::Live(live) = seen else {
-        return Planned::Refused(Refusal::Damaged);
-    };
+    let live = lives(marks);
     let needed = lacks(
         marks,
         offsets,

@@ -1,7 +1,6 @@
 -- `byte_union::room` meets its contract: damage in either table, then what the right needs.
 use borrow.Author.Needs.{needs}
-use Rattle.spans.proofs.Sizes.{fitting-says}
-use Rattle.byte_union.proofs.Rooms.{live-scanned, used-inside, left-bad, right-bad, scan-none, room-slots, room-bytes, room-go}
+use Rattle.byte_union.proofs.Rooms.{lives-within, used-inside, left-bad, right-bad, room-slots, room-bytes, room-go}
 use Rattle.byte_union.proofs.room.Statement.{statement}
 use Rattle.byte_union.proofs.room.Tie as tie
 
@@ -29,35 +28,26 @@ enum-told-3 c = search needs
 returns-2 : tie.Need-returns-2
 returns-2 c = right-bad _ _ (c .before .before .before .before .before .before .survey .ensures) (c .before .before .before .before .found .given .1) (c .before .before .survey2 .ensures) (c .enum-told3 .given .1)
 
-scan-requires : tie.Need-scan-requires
-scan-requires c κs = let z = fitting-says _ (c .before .before .before .before .before .before .before .before .before .before .before .before .before .before .before .pre .0) in (z .offsets, z .lengths)
-
-enum-known-seen : tie.Need-enum-known-seen
-enum-known-seen c = search needs
-
-enum-told-4 : tie.Need-enum-told-4
-enum-told-4 c = search needs
-
-returns-3 : tie.Need-returns-3
-returns-3 c = scan-none _ _ (c .before .before .before .before .before .before .before .before .before .survey .ensures) (c .before .before .before .before .before .before .before .found .given .1) (c .before .before .before .before .before .survey2 .ensures) (c .before .before .scan .ensures) (c .enum-told4 .given .1)
+lives-requires : tie.Need-lives-requires
+lives-requires c κs = search needs
 
 lacks-requires : tie.Need-lacks-requires
-lacks-requires c κs = c .before .before .before .before .before .before .before .before .before .before .before .before .before .before .before .before .before .before .before .pre
+lacks-requires c κs = search needs
 
 sub-if1 : tie.Need-sub-if1
-sub-if1 c = live-scanned _ (c .before .before .before .before .scan .ensures) (c .before .before .seen .given .1) .1
+sub-if1 c = lives-within _ (c .before .lives .ensures)
 
 sub-if2 : tie.Need-sub-if2
-sub-if2 c = used-inside _ (c .before .before .before .before .before .before .before .before .before .before .before .before .before .survey .ensures) (c .before .before .before .before .before .before .before .before .before .before .before .found .given .1)
+sub-if2 c = used-inside _ (c .before .before .before .before .before .before .before .before .before .before .survey .ensures) (c .before .before .before .before .before .before .before .before .found .given .1)
+
+returns-3 : tie.Need-returns-3
+returns-3 c = room-go _ _ (c .before .before .before .before .before .before .before .before .before .before .before .before .survey .ensures) (c .before .before .before .before .before .before .before .before .before .before .found .given .1) (c .before .before .before .before .before .before .before .before .survey2 .ensures) (c .before .before .before .before .before .before .enum-told2 .given .1) (c .before .before .before .before .before .lives .ensures) (c .before .before .before .before .lacks .ensures) (c .before .before .if1 .taken) (c .if2 .taken)
 
 returns-4 : tie.Need-returns-4
-returns-4 c = room-go _ _ (c .before .before .before .before .before .before .before .before .before .before .before .before .before .before .before .survey .ensures) (c .before .before .before .before .before .before .before .before .before .before .before .before .before .found .given .1) (c .before .before .before .before .before .before .before .before .before .before .before .survey2 .ensures) (c .before .before .before .before .before .before .before .before .before .enum-told2 .given .1) (c .before .before .before .before .before .before .before .before .scan .ensures) (c .before .before .before .before .before .before .seen .given .1) (c .before .before .before .before .lacks .ensures) (c .before .before .if1 .taken) (c .if2 .taken)
+returns-4 c = room-bytes _ _ (c .before .before .before .before .before .before .before .before .before .before .before .before .survey .ensures) (c .before .before .before .before .before .before .before .before .before .before .found .given .1) (c .before .before .before .before .before .before .before .before .survey2 .ensures) (c .before .before .before .before .before .before .enum-told2 .given .1) (c .before .before .before .before .before .lives .ensures) (c .before .before .before .before .lacks .ensures) (c .before .before .if1 .taken) (c .if2 .left)
 
 returns-5 : tie.Need-returns-5
-returns-5 c = room-bytes _ _ (c .before .before .before .before .before .before .before .before .before .before .before .before .before .before .before .survey .ensures) (c .before .before .before .before .before .before .before .before .before .before .before .before .before .found .given .1) (c .before .before .before .before .before .before .before .before .before .before .before .survey2 .ensures) (c .before .before .before .before .before .before .before .before .before .enum-told2 .given .1) (c .before .before .before .before .before .before .before .before .scan .ensures) (c .before .before .before .before .before .before .seen .given .1) (c .before .before .before .before .lacks .ensures) (c .before .before .if1 .taken) (c .if2 .left)
-
-returns-6 : tie.Need-returns-6
-returns-6 c = room-slots _ _ (c .before .before .before .before .before .before .before .before .before .before .before .before .before .survey .ensures) (c .before .before .before .before .before .before .before .before .before .before .before .found .given .1) (c .before .before .before .before .before .before .before .before .before .survey2 .ensures) (c .before .before .before .before .before .before .before .enum-told2 .given .1) (c .before .before .before .before .before .before .scan .ensures) (c .before .before .before .before .seen .given .1) (c .before .before .lacks .ensures) (c .if1 .left)
+returns-5 c = room-slots _ _ (c .before .before .before .before .before .before .before .before .before .before .survey .ensures) (c .before .before .before .before .before .before .before .before .found .given .1) (c .before .before .before .before .before .before .survey2 .ensures) (c .before .before .before .before .enum-told2 .given .1) (c .before .before .before .lives .ensures) (c .before .before .lacks .ensures) (c .if1 .left)
 
 pub room-spec : {M : Type 1} → statement M
 room-spec =
@@ -71,13 +61,10 @@ room-spec =
     enum-told-2
     enum-told-3
     returns-2
-    scan-requires
-    enum-known-seen
-    enum-told-4
-    returns-3
+    lives-requires
     lacks-requires
     sub-if1
     sub-if2
+    returns-3
     returns-4
-    returns-5
-    returns-6)
+    returns-5)

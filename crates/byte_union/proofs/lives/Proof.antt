@@ -1,0 +1,53 @@
+-- `byte_union::lives` meets its contract. The loop's invariant: so many of the marks passed are 1. The measure is how many are left.
+use Prim.Native.Nat.{_-_}
+use lib.ListN.{length}
+use borrow.Author.Needs.{needs}
+use Rattle.kinds.proofs.Scanning.{counted-low}
+use Rattle.byte_union.proofs.Rooms.{Counting, count-start, count-more, count-end}
+use Rattle.byte_union.proofs.lives.Statement.{statement}
+use Rattle.byte_union.proofs.lives.Tie as tie
+
+abbrev Inv-loop : tie.InvT-loop
+Inv-loop marks live₀ i₀ live i = Counting marks live i
+
+abbrev μ-loop : tie.MeasureT-loop
+μ-loop marks live₀ i₀ live i = length marks - i
+
+loop-holds : tie.Need-loop-holds Inv-loop μ-loop
+loop-holds c = count-start _
+
+shared-slice-read-count-mark : tie.Need-shared-slice-read-count-mark Inv-loop μ-loop
+shared-slice-read-count-mark c = search needs
+
+count-mark-requires : tie.Need-count-mark-requires Inv-loop μ-loop
+count-mark-requires c κs = search needs
+
+add-live : tie.Need-add-live Inv-loop μ-loop
+add-live c = let one = counted-low _ (c .count-mark .ensures) in search needs
+
+add-i : tie.Need-add-i Inv-loop μ-loop
+add-i c = search needs
+
+loop-less : tie.Need-loop-less Inv-loop μ-loop
+loop-less c = search needs
+
+loop-again : tie.Need-loop-again Inv-loop μ-loop
+loop-again c = count-more (c .before .before .before .loop .inv) (c .before .before .loop-test .taken) (c .count-mark .ensures)
+
+returns : tie.Need-returns Inv-loop μ-loop
+returns c = count-end (c .before .loop .inv) (c .loop-test .left)
+
+pub lives-spec : {M : Type 1} → statement M
+lives-spec =
+    tie.close
+    (tie.spec
+    Inv-loop
+    μ-loop
+    loop-holds
+    shared-slice-read-count-mark
+    count-mark-requires
+    add-live
+    add-i
+    loop-less
+    loop-again
+    returns)
