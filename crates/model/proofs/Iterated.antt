@@ -1,6 +1,6 @@
 -- A walk with no call in between hands out the table's pairs in slot order, which are upstream's iter, keys and values.
 use Prim.Native.Nat.{ℕ, zero, suc, _≤_, _<_}
-use mathlib.Core.Bool.{false}
+use mathlib.Core.Bool.{true, false}
 use mathlib.Core.List.{List, [], _∷_, _++_, append-assoc, append-nil, List·Memᴰ, List·Memᴰ·head, List·Memᴰ·tail, List·Memᴰ·not-nil, List·Memᴰ·append-cases, List·Memᴰ·eq-of-singleton, Memᴰ·append-left, Memᴰ·append-right}
 use mathlib.Core.Path.{_≡_, refl, sym, _∙_, ap, subst}
 use mathlib.Core.Logic.{⊎-elim}
@@ -10,7 +10,7 @@ use Rattle.model.specs.Slots.{Slot, never, freed, bad, live, Table, Keys
 use Rattle.model.specs.Finite.{firsts, contains, finiteOf}
 use Rattle.model.specs.Calls.{Or, no, ok}
 use Rattle.model.specs.Walk.{Paced, halts, step, movedBy}
-use Rattle.model.specs.Demand3.{Machine, pairFrom, stepped, walkAfter, handed, Orderly}
+use Rattle.model.specs.Demand3.{Machine, pairFrom, has, stepped, walkAfter, times, handed, stays, Walked, Orderly}
 use Rattle.model.specs.Iterated.{budgets, seconds, Iterated}
 use Rattle.model.proofs.Cases.{by-lt}
 use Rattle.model.proofs.Slots.{look-some}
@@ -147,3 +147,13 @@ module _ {K W : Type 0} (M : Machine K W) where
   walk-iterated O x f bs e =
       let p : pairs (M .table x) (M .size) ≡ handed M x (M .ticket x) 0 (budgets bs) = ap (λ n. pairs (M .table x) n) (sym e) ∙ handed-pairs bs x (M .ticket x) 0 in
       subst (λ ps. Iterated (M .keys) (M .table x) (M .size) ps) p (pairs-iterated (M .keys) (M .size) (M .table x) (O .once x f))
+
+  -- every key stays where no call comes between
+  unmoved : (k : K) (x : M .State) (bs : List ℕ) → has M x k ≡ true → stays M k x (budgets bs) ≡ true
+  unfolding stays budgets
+  unmoved k x [] h = h
+  unmoved k x (b ∷ bs) h = rw h (unmoved k x bs h)
+
+  -- so that demand 3 hands out each key of the map once
+  pub walk-once : (x : M .State) → Walked M x → (k : K) (bs : List ℕ) → has M x k ≡ true → walkAfter M x (M .ticket x) 0 (budgets bs) ≡ M .size → times M k x (M .ticket x) 0 (budgets bs) ≡ 1
+  walk-once x p k bs h e = p .staying k (budgets bs) (unmoved k x bs h) e
