@@ -18,18 +18,18 @@ use Rattle.kinds.specs.Columns.{values}
 use Rattle.kinds.specs.Marks.{cell}
 use Rattle.ints.specs.Memory.{Cells, memory}
 use Rattle.ints.specs.Seeking.{fittingMap}
-use Rattle.int_entry.specs.declared.Occupied.{Occupied}
-use Rattle.int_entry.specs.declared.Held.{Held}
-use Rattle.int_entry.specs.declared.Held.the-variants as held
-use Rattle.int_entry.specs.declared.Swapped.the-variants as swapped
-use Rattle.int_entry.specs.declared.Taken.{Taken}
-use Rattle.int_entry.specs.declared.Taken.the-variants as taken
-use Rattle.int_entry.specs.declared.TakenEntry.the-variants as taken-entry
+use Rattle.int_handles.specs.declared.Occupied.{Occupied}
+use Rattle.int_handles.specs.declared.Held.{Held}
+use Rattle.int_handles.specs.declared.Held.the-variants as held
+use Rattle.int_handles.specs.declared.Swapped.the-variants as swapped
+use Rattle.int_handles.specs.declared.Taken.{Taken}
+use Rattle.int_handles.specs.declared.Taken.the-variants as taken
+use Rattle.int_handles.specs.declared.TakenEntry.the-variants as taken-entry
 use Rattle.ints.specs.Maps.{maps}
 use Rattle.kinds.specs.Told.{told}
 use Rattle.answers.specs.Said.{heldSaid, swappedSaid, takenSaid, takenEntrySaid}
-use Rattle.int_entry.specs.Numbers.{heldNumbers, swappedNumbers, takenNumbers, takenEntryNumbers}
-use Rattle.int_entry.specs.Calls.{getOf, setOf, removeOf, removeEntryOf}
+use Rattle.int_handles.specs.Numbers.{heldNumbers, swappedNumbers, takenNumbers, takenEntryNumbers}
+use Rattle.int_handles.specs.Calls.{getOf, setOf, removeOf, removeEntryOf}
 
 -- two answers that cannot be equal
 clash : {A : Type 0} → _≡_ {A = ℕ} 0 1 → A

@@ -1,9 +1,9 @@
--- `int_entry::grip` meets its contract: sizes, then the slot number, then what the slot holds.
+-- `int_handles::grip` meets its contract: sizes, then the slot number, then what the slot holds.
 use native.Mathlib.Omega.{arith}
-use Rattle.int_entry.proofs.Grips.{one-length, grip-held, grip-beyond, grip-unfit}
+use Rattle.int_handles.proofs.Grips.{one-length, grip-held, grip-beyond, grip-unfit}
 use borrow.Author.Needs.{needs}
-use Rattle.int_entry.proofs.grip.Statement.{statement}
-use Rattle.int_entry.proofs.grip.Tie as tie
+use Rattle.int_handles.proofs.grip.Statement.{statement}
+use Rattle.int_handles.proofs.grip.Tie as tie
 
 map-fits-requires : tie.Need-map-fits-requires
 map-fits-requires c κs = search needs
