@@ -1,9 +1,8 @@
 -- Entry: what the probing says of where a key stands or would go.
-use Prim.Native.Nat.{ℕ, _<_}
+use Prim.Native.Nat.{ℕ}
 use mathlib.Core.List.{List}
-use mathlib.Core.Path.{_≡_, sym}
-use borrow.Author.Tests.{eqb-true}
-use lib.ListN.{length, getD}
+use mathlib.Core.Path.{_≡_}
+use lib.ListN.{getD}
 use Rattle.model.specs.Calls.{entry}
 use Rattle.answers.specs.declared.Refusal.{Refusal}
 use Rattle.answers.specs.declared.Refusal.the-variants.{NoSlot}
@@ -15,7 +14,7 @@ use Rattle.kinds.proofs.Bridge.{spotOf}
 use Rattle.ints.specs.Memory.{memory}
 use Rattle.ints.specs.Maps.{maps}
 use Rattle.ints.specs.Seeking.{seekingMap}
-use Rattle.ints.proofs.Seeking.{entry-seeking, sought-hit}
+use Rattle.ints.proofs.Seeking.{entry-seeking}
 use Rattle.int_entry.specs.declared.Entered.the-variants as entered
 use Rattle.int_entry.specs.Numbers.{enteredNumbers}
 use Rattle.int_entry.specs.Calls.{entryOf}
@@ -24,11 +23,6 @@ module _ (marks keys vs : List ℕ) (k : ℕ) {r : Probed} (p : r ≡ seekingMap
   sought-entry : entry maps (memory marks keys vs) k ≡ spotOf (λ i. getD vs i 0) r
   unfolding seekingMap
   sought-entry = rw p (entry-seeking values (memory marks keys vs) k)
-
-  -- a hit is a slot of the table's
-  pub hit-inside : {s e : ℕ} → r ≡ probed.Hit s e → (s < length marks) × (length keys ≡ length marks) × (length vs ≡ length marks)
-  unfolding seekingMap
-  hit-inside q = let (a, b, c) = sought-hit values (memory marks keys vs) k p q in (a, b, sym (eqb-true (length marks) (length vs) c))
 
   -- what entry tells
   pub entry-hit : {s e : ℕ} → r ≡ probed.Hit s e → enteredNumbers (entered.Occupied (record { slot = s }) (getD vs s 0) e) ≡ entryOf (memory marks keys vs) k

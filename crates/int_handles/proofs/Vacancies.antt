@@ -1,16 +1,16 @@
 -- Vacant handles: what the probing says of them, and what their insert tells and leaves by it.
 use Prim.Native.Nat.{ℕ, _-_, _<_}
-use mathlib.Core.Bool.{true, false}
+use mathlib.Core.Bool.{false}
 use mathlib.Core.List.{List}
 use mathlib.Core.Path.{_≡_, refl, sym, _∙_, ap}
 use native.Mathlib.Omega.{arith}
-use borrow.Author.Tests.{le-leb, eq-eqb, ne-eqb, eqb-true}
+use borrow.Author.Tests.{le-leb, eq-eqb, ne-eqb}
 use lib.Dec.{eqb, ltb}
 use lib.ListN.{length, getD, set}
 use Rattle.model.specs.Path.{Find, hit, miss, hurt}
 use Rattle.model.specs.Store.{path, slotAt, used}
 use Rattle.model.specs.Calls.{Or, no, ok, need, pass, give, acted, spotBy, entry, goodFor, vacancy, vacant-insert, after-fill}
-use Rattle.model.proofs.Cases.{both, by-bool, by-eq}
+use Rattle.model.proofs.Cases.{by-bool, by-eq}
 use Rattle.digest.specs.Home.{homeOfWord}
 use Rattle.answers.specs.declared.Refusal.{Refusal}
 use Rattle.answers.specs.declared.Refusal.the-variants.{BadHandle}
@@ -22,12 +22,11 @@ use Rattle.answers.specs.Said.{doneSaid, standingSaid}
 use Rattle.kinds.specs.declared.Probed.{Probed}
 use Rattle.kinds.specs.declared.Probed.the-variants as probed
 use Rattle.kinds.specs.Columns.{values}
-use Rattle.ints.specs.Memory.{Cells, fitting, memory}
+use Rattle.ints.specs.Memory.{Cells, memory}
 use Rattle.kinds.specs.Probing.{along}
 use Rattle.ints.specs.Seeking.{seeking, seekingMap}
 use Rattle.kinds.proofs.Bridge.{spotOf}
-use Rattle.ints.proofs.Bridge.{sized-is, probing-path}
-use Rattle.ints.proofs.Seeking.{entry-seeking, sought-free}
+use Rattle.ints.proofs.Seeking.{entry-seeking, path-sought, free-inside}
 use Rattle.int_handles.specs.declared.Standing.the-variants as standing
 use Rattle.ints.specs.Maps.{maps}
 use Rattle.kinds.specs.Told.{told}
@@ -52,11 +51,6 @@ module _ (m : Cells values) (s k : ℕ) where
   good-along (miss e f) = by-bool (ltb f (length (m .marks))) (λ t. rw (t, le-leb 0 (0 - used maps m) (omega arith))) (λ t. rw t)
   good-along hurt = refl
 
-  -- sizes that fit: the probing is the path
-  path-sought : maps .sized m ≡ true → seeking values m k ≡ along (length (m .marks)) (homeOfWord 0 (length (m .marks)) k) (path maps m k)
-  unfolding seeking
-  path-sought e = let (a, b) = both (fitting (m .marks) (m .keys)) (eqb (length (m .marks)) (length (m .words))) (sym (sized-is values m) ∙ e) in rw b (probing-path values m k a)
-
   -- refusal 1 of entry is refusal 1 of the handle
   unsized-good : (r : Probed) → no 1 ≡ spotOf (λ i. getD (m .words) i 0) r → no 1 ≡ goodOf s r
   unsized-good (probed.Hit x e) q = clash cc
@@ -72,7 +66,7 @@ module _ (m : Cells values) (s k : ℕ) where
   pub vacancy-seeking : vacancy maps m s k ≡ goodOf s (seeking values m k)
   unfolding vacancy need pass
   vacancy-seeking = by-bool (maps .sized m)
-      (λ e. rw (e, path-sought e) (good-along (path maps m k)))
+      (λ e. rw (e, path-sought values m k e) (good-along (path maps m k)))
       (λ e. rw e (unsized-good (seeking values m k) (entry-one e ∙ entry-seeking values m k)))
 
 module _ (marks keys vs : List ℕ) (k : ℕ) {r : Probed} (p : r ≡ seekingMap marks keys vs k) where
@@ -131,11 +125,11 @@ module _ (marks keys vs : List ℕ) (s k : ℕ) {a : Outcome} (p : outcomeNumber
   unfolding freshOf
   bad q = done-no (vacancy maps (memory marks keys vs) s k) p q
 
-  pub fresh-slot : a ≡ outcome.Done → (s < length marks) × (length keys ≡ length marks) × (length vs ≡ length marks)
+  pub fresh-slot : a ≡ outcome.Done → (s < length marks) × (s < length keys) × (s < length vs)
+  unfolding seekingMap
   fresh-slot q =
       let (e, f) = good-free s (seeking values (memory marks keys vs) k) (sym (vacancy-seeking (memory marks keys vs) s k) ∙ good q) in
-      let (x, y, z) = sought-free values (memory marks keys vs) k refl f in
-      (x, y, sym (eqb-true (length marks) (length vs) z))
+      free-inside marks keys vs k refl f
 
   pub insert-done : (v : ℕ) → a ≡ outcome.Done → told (standingNumbers (standing.Now (record { slot = s }) v)) (memory (set marks s 1) (set keys s k) (set vs s v)) ≡ insertOf (memory marks keys vs) s k v
   unfolding insertOf vacant-insert after-fill give acted standingNumbers standingSaid
