@@ -2,7 +2,7 @@
 use Prim.Native.Nat.{ℕ}
 use mathlib.Core.List.{List}
 use mathlib.Core.Logic.{_⊎_, inl, inr}
-use mathlib.Core.Path.{_≡_, refl, sym, ap, ap₂}
+use mathlib.Core.Path.{_≡_, refl, sym, ap}
 use native.Mathlib.Omega.{arith}
 use denote.Enum.Declared.{tagOf}
 use lib.ListN.{length}
@@ -14,6 +14,7 @@ use Rattle.answers.specs.Said.{heldSaid, swappedSaid, standingSaid}
 use Rattle.kinds.specs.Calls.{heldOf, setOf, standingOf, slotOf, orInsertOf, insertEntryOf}
 use Rattle.kinds.specs.Columns.{values}
 use Rattle.kinds.specs.Told.{told}
+use Rattle.kinds.proofs.Told.{said, left, retold}
 use Rattle.spans.specs.Kinds.{maps}
 use Rattle.spans.specs.Memory.{Strings}
 use Rattle.byte_handles.specs.declared.Occupied.{Occupied}
@@ -27,16 +28,6 @@ use Rattle.byte_entry.proofs.Entered.{the-type}
 use Rattle.byte_entry.specs.declared.Entered.{Entered}
 use Rattle.byte_entry.specs.declared.Entered.the-variants as entered
 use Rattle.byte_entry.specs.Calls.{placeOf, handleOf}
-
--- what is told and what is left, apart and together
-said : {M : Type 0} {a b : Numbers} {m n : M} → told a m ≡ told b n → a ≡ b
-said e = ap (λ t. t .numbers) e
-
-left : {M : Type 0} {a b : Numbers} {m n : M} → told a m ≡ told b n → m ≡ n
-left e = ap (λ t. t .memory) e
-
-retold : {M : Type 0} {a b : Numbers} {m n : M} → a ≡ b → m ≡ n → told a m ≡ told b n
-retold p q = ap₂ (λ a m. told a m) p q
 
 -- an answer that is not vacant counts as slot S
 pub place-other : (S : ℕ) (a : Entered) → (tagOf the-type a ≡ 0) ⊎ (tagOf the-type a ≡ 2) → S ≡ placeOf S a

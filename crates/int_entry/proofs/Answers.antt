@@ -13,20 +13,22 @@ use Rattle.answers.specs.Refusals.{numberOf}
 use Rattle.kinds.specs.Columns.{values}
 use Rattle.ints.specs.Memory.{Cells, memory}
 use Rattle.int_entry.proofs.Entered.{the-type}
-use Rattle.int_entry.specs.declared.Occupied.{Occupied}
+use Rattle.int_handles.specs.declared.Occupied.{Occupied}
 use Rattle.int_entry.specs.declared.Entered.{Entered}
 use Rattle.int_entry.specs.declared.Entered.the-variants as entered
-use Rattle.int_entry.specs.declared.Held.{Held}
-use Rattle.int_entry.specs.declared.Held.the-variants as held
-use Rattle.int_entry.specs.declared.Swapped.{Swapped}
-use Rattle.int_entry.specs.declared.Swapped.the-variants as swapped
-use Rattle.int_entry.specs.declared.Standing.the-variants as standing
+use Rattle.int_handles.specs.declared.Held.{Held}
+use Rattle.int_handles.specs.declared.Held.the-variants as held
+use Rattle.int_handles.specs.declared.Swapped.{Swapped}
+use Rattle.int_handles.specs.declared.Swapped.the-variants as swapped
+use Rattle.int_handles.specs.declared.Standing.the-variants as standing
 use Rattle.ints.specs.Maps.{maps}
 use Rattle.kinds.specs.Told.{told}
+use Rattle.kinds.proofs.Told.{said, left, retold}
 use Rattle.answers.specs.Said.{swappedSaid, standingSaid}
-use Rattle.int_entry.specs.Numbers.{heldNumbers, swappedNumbers, standingNumbers}
-use Rattle.int_entry.specs.Calls.{getOf, setOf, insertOf, placeOf, handleOf, slotOf, orInsertOf, insertEntryOf}
-use Rattle.int_entry.proofs.Grips.{said, left, retold, get-ok, get-no}
+use Rattle.int_handles.specs.Numbers.{heldNumbers, swappedNumbers, standingNumbers}
+use Rattle.int_handles.specs.Calls.{getOf, setOf, insertOf}
+use Rattle.int_entry.specs.Calls.{placeOf, handleOf, slotOf, orInsertOf, insertEntryOf}
+use Rattle.int_handles.proofs.Grips.{get-ok, get-no}
 
 -- an answer that is not vacant counts as slot S
 pub place-other : (S : ℕ) (a : Entered) → (tagOf the-type a ≡ 0) ⊎ (tagOf the-type a ≡ 2) → S ≡ placeOf S a

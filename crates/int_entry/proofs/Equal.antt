@@ -1,20 +1,10 @@
--- Equal numbers are equal answers, for each answer that is declared here.
+-- Equal numbers are equal answers of entry.
 use mathlib.Core.Path.{_≡_, ap}
 use native.Mathlib.Omega.{arith}
 use Rattle.answers.proofs.Told.{numberOf-injective}
 use Rattle.int_entry.specs.declared.Entered.{Entered}
 use Rattle.int_entry.specs.declared.Entered.the-variants as entered
-use Rattle.int_entry.specs.declared.Held.{Held}
-use Rattle.int_entry.specs.declared.Held.the-variants as held
-use Rattle.int_entry.specs.declared.Swapped.{Swapped}
-use Rattle.int_entry.specs.declared.Swapped.the-variants as swapped
-use Rattle.int_entry.specs.declared.Taken.{Taken}
-use Rattle.int_entry.specs.declared.Taken.the-variants as taken
-use Rattle.int_entry.specs.declared.TakenEntry.{TakenEntry}
-use Rattle.int_entry.specs.declared.TakenEntry.the-variants as taken-entry
-use Rattle.int_entry.specs.declared.Standing.{Standing}
-use Rattle.int_entry.specs.declared.Standing.the-variants as standing
-use Rattle.int_entry.specs.Numbers.{enteredNumbers, heldNumbers, swappedNumbers, takenNumbers, takenEntryNumbers, standingNumbers}
+use Rattle.int_entry.specs.Numbers.{enteredNumbers}
 
 pub enteredNumbers-injective : (a b : Entered) → enteredNumbers a ≡ enteredNumbers b → a ≡ b
 unfolding enteredNumbers
@@ -27,38 +17,3 @@ enteredNumbers-injective (entered.Vacant h e) (entered.Refused r′) q = let z :
 enteredNumbers-injective (entered.Refused r) (entered.Occupied h′ v′ e′) q = let z : ⊥ = omega (arith, ap (λ n. n .case) q) in absurd z
 enteredNumbers-injective (entered.Refused r) (entered.Vacant h′ e′) q = let z : ⊥ = omega (arith, ap (λ n. n .case) q) in absurd z
 enteredNumbers-injective (entered.Refused r) (entered.Refused r′) q = ap entered.Refused (numberOf-injective r r′ (ap (λ n. n .refusal) q))
-
-pub heldNumbers-injective : (a b : Held) → heldNumbers a ≡ heldNumbers b → a ≡ b
-unfolding heldNumbers
-heldNumbers-injective (held.Value v h) (held.Value v′ h′) q = let z : h ≡ h′ = ap (λ s. record { slot = s }) (ap (λ n. n .slot) q) in cc (ap (λ n. n .value) q)
-heldNumbers-injective (held.Value v h) (held.Refused r′) q = let z : ⊥ = omega (arith, ap (λ n. n .case) q) in absurd z
-heldNumbers-injective (held.Refused r) (held.Value v′ h′) q = let z : ⊥ = omega (arith, ap (λ n. n .case) q) in absurd z
-heldNumbers-injective (held.Refused r) (held.Refused r′) q = ap held.Refused (numberOf-injective r r′ (ap (λ n. n .refusal) q))
-
-pub swappedNumbers-injective : (a b : Swapped) → swappedNumbers a ≡ swappedNumbers b → a ≡ b
-unfolding swappedNumbers
-swappedNumbers-injective (swapped.Was v h) (swapped.Was v′ h′) q = let z : h ≡ h′ = ap (λ s. record { slot = s }) (ap (λ n. n .slot) q) in cc (ap (λ n. n .value) q)
-swappedNumbers-injective (swapped.Was v h) (swapped.Refused r′) q = let z : ⊥ = omega (arith, ap (λ n. n .case) q) in absurd z
-swappedNumbers-injective (swapped.Refused r) (swapped.Was v′ h′) q = let z : ⊥ = omega (arith, ap (λ n. n .case) q) in absurd z
-swappedNumbers-injective (swapped.Refused r) (swapped.Refused r′) q = ap swapped.Refused (numberOf-injective r r′ (ap (λ n. n .refusal) q))
-
-pub takenNumbers-injective : (a b : Taken) → takenNumbers a ≡ takenNumbers b → a ≡ b
-unfolding takenNumbers
-takenNumbers-injective (taken.Removed v) (taken.Removed v′) q = cc (ap (λ n. n .value) q)
-takenNumbers-injective (taken.Removed v) (taken.Refused r′) q = let z : ⊥ = omega (arith, ap (λ n. n .case) q) in absurd z
-takenNumbers-injective (taken.Refused r) (taken.Removed v′) q = let z : ⊥ = omega (arith, ap (λ n. n .case) q) in absurd z
-takenNumbers-injective (taken.Refused r) (taken.Refused r′) q = ap taken.Refused (numberOf-injective r r′ (ap (λ n. n .refusal) q))
-
-pub takenEntryNumbers-injective : (a b : TakenEntry) → takenEntryNumbers a ≡ takenEntryNumbers b → a ≡ b
-unfolding takenEntryNumbers
-takenEntryNumbers-injective (taken-entry.Removed k v) (taken-entry.Removed k′ v′) q = cc (ap (λ n. n .key) q, ap (λ n. n .value) q)
-takenEntryNumbers-injective (taken-entry.Removed k v) (taken-entry.Refused r′) q = let z : ⊥ = omega (arith, ap (λ n. n .case) q) in absurd z
-takenEntryNumbers-injective (taken-entry.Refused r) (taken-entry.Removed k′ v′) q = let z : ⊥ = omega (arith, ap (λ n. n .case) q) in absurd z
-takenEntryNumbers-injective (taken-entry.Refused r) (taken-entry.Refused r′) q = ap taken-entry.Refused (numberOf-injective r r′ (ap (λ n. n .refusal) q))
-
-pub standingNumbers-injective : (a b : Standing) → standingNumbers a ≡ standingNumbers b → a ≡ b
-unfolding standingNumbers
-standingNumbers-injective (standing.Now h v) (standing.Now h′ v′) q = let z : h ≡ h′ = ap (λ s. record { slot = s }) (ap (λ n. n .slot) q) in cc (ap (λ n. n .value) q)
-standingNumbers-injective (standing.Now h v) (standing.Refused r′) q = let z : ⊥ = omega (arith, ap (λ n. n .case) q) in absurd z
-standingNumbers-injective (standing.Refused r) (standing.Now h′ v′) q = let z : ⊥ = omega (arith, ap (λ n. n .case) q) in absurd z
-standingNumbers-injective (standing.Refused r) (standing.Refused r′) q = ap standing.Refused (numberOf-injective r r′ (ap (λ n. n .refusal) q))

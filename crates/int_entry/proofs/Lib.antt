@@ -1,6 +1,5 @@
 -- The laws of the integer map's entries.
 pub mod Equal
-pub mod Grips
 pub mod Places
 pub mod Answers
 pub mod Settled

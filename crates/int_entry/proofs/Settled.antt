@@ -5,35 +5,17 @@ use Rattle.kinds.specs.Columns.{values}
 use Rattle.kinds.specs.Told.{Settled, SettledWith}
 use Rattle.kinds.proofs.Settled.{settled, settled-with}
 use Rattle.ints.specs.Memory.{Cells}
+use Rattle.int_handles.specs.Numbers.{standingNumbers}
+use Rattle.int_handles.proofs.Equal.{standingNumbers-injective}
 use Rattle.int_entry.specs.declared.Entered.{Entered}
-use Rattle.int_entry.specs.Numbers.{enteredNumbers, heldNumbers, swappedNumbers, takenNumbers, takenEntryNumbers, standingNumbers}
-use Rattle.int_entry.specs.Calls.{entryOf, getOf, setOf, removeOf, removeEntryOf, insertOf, handleOf, orInsertOf, insertEntryOf}
-use Rattle.int_entry.proofs.Equal.{enteredNumbers-injective, heldNumbers-injective, swappedNumbers-injective, takenNumbers-injective, takenEntryNumbers-injective, standingNumbers-injective}
+use Rattle.int_entry.specs.Numbers.{enteredNumbers}
+use Rattle.int_entry.specs.Calls.{entryOf, handleOf, orInsertOf, insertEntryOf}
+use Rattle.int_entry.proofs.Equal.{enteredNumbers-injective}
 
 module _ (m : Cells values) where
   -- `entry`.
   pub entry-settled : (k : ℕ) → Settled enteredNumbers (entryOf m k)
   entry-settled k = settled enteredNumbers-injective
-
-  -- `Occupied::get`.
-  pub get-settled : (s k : ℕ) → Settled heldNumbers (getOf m s k)
-  get-settled s k = settled heldNumbers-injective
-
-  -- `Occupied::set`.
-  pub set-settled : (s k v : ℕ) → SettledWith swappedNumbers (setOf m s k v)
-  set-settled s k v = settled-with swappedNumbers-injective
-
-  -- `Occupied::remove`.
-  pub remove-settled : (s k : ℕ) → SettledWith takenNumbers (removeOf m s k)
-  remove-settled s k = settled-with takenNumbers-injective
-
-  -- `Occupied::remove_entry`.
-  pub remove-entry-settled : (s k : ℕ) → SettledWith takenEntryNumbers (removeEntryOf m s k)
-  remove-entry-settled s k = settled-with takenEntryNumbers-injective
-
-  -- `Vacant::insert`.
-  pub insert-settled : (s k v : ℕ) → SettledWith standingNumbers (insertOf m s k v)
-  insert-settled s k v = settled-with standingNumbers-injective
 
   -- `Entered::or_insert`.
   pub or-insert-settled : (e : Entered) (k v : ℕ) → SettledWith standingNumbers (orInsertOf m (handleOf (length (m .marks)) e) k v)

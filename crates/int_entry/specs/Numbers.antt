@@ -1,48 +1,12 @@
--- The numbers that the paper prints for the answers of entries and handles.
-use Prim.Native.Nat.{ℕ}
+-- The numbers that the paper prints for the answer of entry.
 use Rattle.answers.specs.declared.Numbers.{Numbers}
 use Rattle.answers.specs.Numbers.{refusalNumbers}
 use Rattle.answers.specs.Said.{saidCase}
 use Rattle.int_entry.specs.declared.Entered.{Entered}
-use Rattle.int_entry.specs.declared.Entered.the-variants as entered
-use Rattle.int_entry.specs.declared.Held.{Held}
-use Rattle.int_entry.specs.declared.Held.the-variants as held
-use Rattle.int_entry.specs.declared.Swapped.{Swapped}
-use Rattle.int_entry.specs.declared.Swapped.the-variants as swapped
-use Rattle.int_entry.specs.declared.Taken.{Taken}
-use Rattle.int_entry.specs.declared.Taken.the-variants as taken
-use Rattle.int_entry.specs.declared.TakenEntry.{TakenEntry}
-use Rattle.int_entry.specs.declared.TakenEntry.the-variants as taken-entry
-use Rattle.int_entry.specs.declared.Standing.{Standing}
-use Rattle.int_entry.specs.declared.Standing.the-variants as standing
+use Rattle.int_entry.specs.declared.Entered.the-variants.{Occupied, Vacant, Refused}
 
--- Of entry: case 12, occupied with slot, value and examined number, or 13, vacant with slot and examined number.
+-- Case 12, occupied with slot, value and examined number, or 13, vacant with slot and examined number.
 unfoldable pub enteredNumbers : Entered → Numbers
-enteredNumbers (entered.Occupied h v e) = saidCase 12 0 v (h .slot) e
-enteredNumbers (entered.Vacant h e) = saidCase 13 0 0 (h .slot) e
-enteredNumbers (entered.Refused r) = refusalNumbers r
-
--- Of an occupied handle's get: case 17, the value and the handle's slot.
-unfoldable pub heldNumbers : Held → Numbers
-heldNumbers (held.Value v h) = saidCase 17 0 v (h .slot) 0
-heldNumbers (held.Refused r) = refusalNumbers r
-
--- Of its set: case 18, the old value and the handle's slot.
-unfoldable pub swappedNumbers : Swapped → Numbers
-swappedNumbers (swapped.Was v h) = saidCase 18 0 v (h .slot) 0
-swappedNumbers (swapped.Refused r) = refusalNumbers r
-
--- Of its remove: case 11, the value.
-unfoldable pub takenNumbers : Taken → Numbers
-takenNumbers (taken.Removed v) = saidCase 11 0 v 0 0
-takenNumbers (taken.Refused r) = refusalNumbers r
-
--- Of its remove_entry: case 11, the key and the value.
-unfoldable pub takenEntryNumbers : TakenEntry → Numbers
-takenEntryNumbers (taken-entry.Removed k v) = saidCase 11 k v 0 0
-takenEntryNumbers (taken-entry.Refused r) = refusalNumbers r
-
--- Of a vacant handle's insert, or_insert and insert_entry: case 19, the value now in the slot, and the handle's slot.
-unfoldable pub standingNumbers : Standing → Numbers
-standingNumbers (standing.Now h v) = saidCase 19 0 v (h .slot) 0
-standingNumbers (standing.Refused r) = refusalNumbers r
+enteredNumbers (Occupied h v e) = saidCase 12 0 v (h .slot) e
+enteredNumbers (Vacant h e) = saidCase 13 0 0 (h .slot) e
+enteredNumbers (Refused r) = refusalNumbers r

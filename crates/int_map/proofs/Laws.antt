@@ -1,75 +1,38 @@
 -- What the tests and callees of each call say of its definition: one law for each return of the code.
-use Prim.Native.Nat.{ℕ, _-_, _≤_, _<_}
+use Prim.Native.Nat.{ℕ}
 use mathlib.Core.Bool.{Bool, true, false}
 use mathlib.Core.List.{List}
-use mathlib.Core.Path.{_≡_, sym, _∙_, ap}
+use mathlib.Core.Path.{_≡_, sym, _∙_}
 use native.Mathlib.Omega.{arith}
-use borrow.Author.Tests.{eq-eqb, ne-eqb, le-leb, lt-leb, eqb-true}
-use lib.Dec.{eqb}
+use borrow.Author.Tests.{eq-eqb, ne-eqb}
 use lib.ListN.{length, getD, set, replicate}
 use Rattle.model.specs.Calls as model
-use Rattle.model.specs.Calls.{Or, no, ok, need, get, entry, storedBy, after-insert, remove, removedBy, after-remove, acted, capacity, after-make, reserve, copy, after-copy}
-use Rattle.model.specs.Store.{Store, live-count, hurtful}
-use Rattle.model.proofs.Cases.{both, by-bool}
-use Rattle.model.proofs.Slots.{count-high}
+use Rattle.model.specs.Calls.{need, get, entry, storedBy, after-insert, remove, removedBy, after-remove, acted, capacity, after-make, copy, after-copy}
 use Rattle.answers.specs.declared.Refusal.{Refusal}
 use Rattle.answers.specs.declared.Refusal.the-variants.{Sizes, Damaged, NoSlot}
 use Rattle.answers.specs.declared.Outcome.the-variants as outcome
-use Rattle.answers.specs.declared.Counted.{Counted}
 use Rattle.answers.specs.declared.Counted.the-variants as counted
-use Rattle.answers.specs.declared.Emptiness.the-variants as emptiness
-use Rattle.answers.specs.declared.Reserved.the-variants as reserved
 use Rattle.answers.specs.declared.Got.the-variants as got
 use Rattle.answers.specs.declared.Contained.the-variants as contained
 use Rattle.answers.specs.declared.Inserted.the-variants as inserted
 use Rattle.answers.specs.declared.Removed.the-variants as removed
-use Rattle.answers.specs.Refusals.{numberOf}
-use Rattle.answers.specs.Numbers.{outcomeNumbers, countedNumbers, emptinessNumbers, reservedNumbers, gotNumbers, containedNumbers, insertedNumbers, removedNumbers}
-use Rattle.answers.specs.Said.{doneSaid, countSaid, emptySaid, roomSaid, gotSaid, containedSaid, insertedSaid, removedSaid}
+use Rattle.answers.specs.Numbers.{outcomeNumbers, countedNumbers, gotNumbers, containedNumbers, insertedNumbers, removedNumbers}
+use Rattle.answers.specs.Said.{doneSaid, countSaid, gotSaid, containedSaid, insertedSaid, removedSaid}
 use Rattle.arrays.specs.Whole.{copied}
 use Rattle.kinds.specs.declared.Probed.{Probed}
 use Rattle.kinds.specs.declared.Probed.the-variants.{Hit, Free, Full, Refused}
 use Rattle.kinds.specs.declared.Scanned.{Scanned}
 use Rattle.kinds.specs.declared.Scanned.the-variants as scanned
 use Rattle.kinds.specs.Columns.{values}
-use Rattle.ints.specs.Memory.{fitting, memory}
+use Rattle.ints.specs.Memory.{memory}
 use Rattle.ints.specs.Scanning.{scanning}
 use Rattle.ints.specs.Seeking.{fittingMap, seekingMap}
-use Rattle.ints.proofs.Sizes.{fitting-says}
 use Rattle.kinds.proofs.Bridge.{seenOf, spotOf}
-use Rattle.ints.proofs.Bridge.{sized-is, scan-live, scan-bad}
-use Rattle.ints.proofs.Seeking.{get-seeking, remove-seeking, entry-seeking, sought-hit, sought-free}
+use Rattle.ints.proofs.Bridge.{scan-live, scan-bad}
+use Rattle.ints.proofs.Seeking.{get-seeking, remove-seeking, entry-seeking, same-long}
 use Rattle.ints.specs.Maps.{maps}
 use Rattle.kinds.specs.Told.{told}
-use Rattle.int_map.specs.Calls.{makeOf, capacityOf, lenOf, isEmptyOf, reserveOf, getOf, containsKeyOf, insertOf, removeOf, copyOf}
-
--- what a length says where it was counted, and where it was refused
-count-ok : (x : Or ℕ) (n : ℕ) → countedNumbers (counted.Count n) ≡ countSaid x → x ≡ ok n
-unfolding countedNumbers countSaid
-count-ok (no i) n e = let z : ⊥ = omega (arith, ap (λ a. a .case) e) in absurd z
-count-ok (ok y) n e = ap ok (sym (ap (λ a. a .value) e))
-
-count-no : (x : Or ℕ) (r : Refusal) → countedNumbers (counted.Refused r) ≡ countSaid x → x ≡ no (numberOf r)
-unfolding countedNumbers countSaid
-count-no (no i) r e = ap no (sym (ap (λ a. a .refusal) e))
-count-no (ok y) r e = let z : ⊥ = omega (arith, ap (λ a. a .case) e) in absurd z
-
-module _ {K W : Type 0} (M : Store K W) (m : M .State) where
-  length-ok : {n : ℕ} → model.length M m ≡ ok n → (M .sized m ≡ true) × (hurtful M m ≡ false) × (live-count M m ≡ n)
-  unfolding model.length need
-  length-ok e = by-bool (M .sized m)
-      (λ s. by-bool (hurtful M m)
-      (λ h. let z : _≡_ {A = ℕ} 0 1 = cc (rw (s, h) at e) in absurd (omega arith))
-      (λ h. (s, h, cc (rw (s, h) at e))))
-      (λ s. let z : _≡_ {A = ℕ} 0 1 = cc (rw s at e) in absurd (omega arith))
-
-  reserve-no : (asked : ℕ) {i : ℕ} → model.length M m ≡ no i → reserve M m asked ≡ no i
-  unfolding model.length reserve need
-  reserve-no asked e = by-bool (M .sized m)
-      (λ s. by-bool (hurtful M m)
-      (λ h. rw (s, h) (cc (rw (s, h) at e)))
-      (λ h. let z : _≡_ {A = ℕ} 0 1 = cc (rw (s, h) at e) in absurd (omega arith)))
-      (λ s. rw s (cc (rw s at e)))
+use Rattle.int_map.specs.Calls.{makeOf, capacityOf, lenOf, getOf, containsKeyOf, insertOf, removeOf, copyOf}
 
 module _ (marks keys vs : List ℕ) where
   module _ {b : Bool} (p : b ≡ fittingMap marks keys vs) where
@@ -112,58 +75,7 @@ module _ (marks keys vs : List ℕ) where
     unfolding lenOf model.length need countSaid countedNumbers
     len-not q = rw (unfit q)
 
-  module _ {r : Counted} (p : countedNumbers r ≡ lenOf (memory marks keys vs)) where
-    counted-ok : {n : ℕ} → r ≡ counted.Count n → model.length maps (memory marks keys vs) ≡ ok n
-    unfolding lenOf
-    counted-ok {n} q = count-ok (model.length maps (memory marks keys vs)) n (rw q at p)
-
-    counted-no : {x : Refusal} → r ≡ counted.Refused x → model.length maps (memory marks keys vs) ≡ no (numberOf x)
-    unfolding lenOf
-    counted-no {x} q = count-no (model.length maps (memory marks keys vs)) x (rw q at p)
-
-    -- is_empty
-    pub empty-none : {n : ℕ} → r ≡ counted.Count n → n ≡ 0 → emptinessNumbers emptiness.Empty ≡ isEmptyOf (memory marks keys vs)
-    unfolding isEmptyOf emptySaid emptinessNumbers
-    empty-none q e = rw (counted-ok q, e)
-
-    pub empty-some : {n : ℕ} → r ≡ counted.Count n → (n ≡ 0 → ⊥) → emptinessNumbers emptiness.Holds ≡ isEmptyOf (memory marks keys vs)
-    unfolding isEmptyOf emptySaid emptinessNumbers
-    empty-some {n} q h = rw (counted-ok q, ne-eqb n 0 h)
-
-    pub empty-not : {x : Refusal} → r ≡ counted.Refused x → emptinessNumbers (emptiness.Refused x) ≡ isEmptyOf (memory marks keys vs)
-    unfolding isEmptyOf emptySaid emptinessNumbers
-    empty-not q = rw (counted-no q)
-
-    -- reserve
-    sound-count : {n : ℕ} → r ≡ counted.Count n → (maps .sized (memory marks keys vs) ≡ true) × (hurtful maps (memory marks keys vs) ≡ false) × (live-count maps (memory marks keys vs) ≡ n)
-    sound-count q = length-ok maps (memory marks keys vs) (counted-ok q)
-
-    pub count-within : {n : ℕ} → r ≡ counted.Count n → n ≤ length marks
-    unfolding live-count
-    count-within q = let (a, b, l) = sound-count q in omega (arith, count-high (maps .slots (memory marks keys vs)) (length marks))
-
-    pub reserve-room : {n asked : ℕ} → r ≡ counted.Count n → asked ≤ length marks - n → reservedNumbers reserved.Room ≡ reserveOf (memory marks keys vs) asked
-    unfolding reserveOf reserve need roomSaid reservedNumbers
-    reserve-room {n} {asked} q l = let (a, b, e) = sound-count q in rw (a, b, e, le-leb asked (length marks - n) l)
-
-    pub reserve-none : {n asked : ℕ} → r ≡ counted.Count n → length marks - n < asked → reservedNumbers (reserved.Refused NoSlot) ≡ reserveOf (memory marks keys vs) asked
-    unfolding reserveOf reserve need roomSaid reservedNumbers
-    reserve-none {n} {asked} q l = let (a, b, e) = sound-count q in rw (a, b, e, lt-leb asked (length marks - n) l)
-
-    pub reserve-not : (asked : ℕ) {x : Refusal} → r ≡ counted.Refused x → reservedNumbers (reserved.Refused x) ≡ reserveOf (memory marks keys vs) asked
-    unfolding reserveOf roomSaid reservedNumbers
-    reserve-not asked {x} q = rw (reserve-no maps (memory marks keys vs) asked (counted-no q))
-
   module _ (k : ℕ) {r : Probed} (p : r ≡ seekingMap marks keys vs k) where
-    -- a slot that the probing answers is inside all three arrays
-    pub hit-inside : {s e : ℕ} → r ≡ Hit s e → (s < length marks) × (s < length keys) × (s < length vs)
-    unfolding seekingMap
-    hit-inside q = let (a, b, l) = sought-hit values (memory marks keys vs) k p q in (a, omega arith, omega (arith, eqb-true (length marks) (length vs) l))
-
-    pub free-inside : {s e : ℕ} → r ≡ Free s e → (s < length marks) × (s < length keys) × (s < length vs)
-    unfolding seekingMap
-    free-inside q = let (a, b, l) = sought-free values (memory marks keys vs) k p q in (a, omega arith, omega (arith, eqb-true (length marks) (length vs) l))
-
     get-is : get maps (memory marks keys vs) k ≡ seenOf (λ i. getD vs i 0) r
     unfolding seekingMap
     get-is = rw p (get-seeking values (memory marks keys vs) k)
@@ -243,13 +155,6 @@ module _ (marks keys vs : List ℕ) where
     pub remove-refused : {x : Refusal} → r ≡ Refused x → told (removedNumbers (removed.Refused x)) (memory marks keys vs) ≡ removeOf (memory marks keys vs) k
     unfolding removeOf after-remove removedBy removedSaid removedNumbers
     remove-refused q = rw (remove-is, q)
-
-  -- right sizes: the three arrays are of one length
-  pub same-long : {b : Bool} → b ≡ fittingMap marks keys vs → b ≡ true → (length keys ≡ length marks) × (length vs ≡ length marks)
-  unfolding fittingMap
-  same-long p q =
-      let (a, d) = both (fitting marks keys) (eqb (length marks) (length vs)) (sym (sized-is values (memory marks keys vs)) ∙ sym p ∙ q) in
-      (fitting-says marks keys a .1, sym (eqb-true (length marks) (length vs) d))
 
 copied-whole : (to from : List ℕ) {a : List ℕ} → length to ≡ length from → a ≡ copied to from → a ≡ from
 unfolding copied

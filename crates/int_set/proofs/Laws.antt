@@ -1,26 +1,18 @@
 -- What the tests and callees of each call say of its definition. A path call has one law, by what the probing found.
-use Prim.Native.Nat.{ℕ, _-_, _≤_, _<_}
+use Prim.Native.Nat.{ℕ, _<_}
 use mathlib.Core.Bool.{Bool, true, false}
 use mathlib.Core.List.{List}
-use mathlib.Core.Path.{_≡_, refl, sym, _∙_, ap}
+use mathlib.Core.Path.{_≡_, refl, sym, _∙_}
 use native.Mathlib.Omega.{arith}
-use borrow.Author.Tests.{eq-eqb, ne-eqb, le-leb, lt-leb}
+use borrow.Author.Tests.{eq-eqb, ne-eqb}
 use lib.ListN.{length, replicate}
 use Rattle.model.specs.Calls as model
-use Rattle.model.specs.Calls.{Or, no, ok, need, storedBy, after-insert, removedBy, after-remove, acted, capacity, after-make, reserve, copy, after-copy}
-use Rattle.model.specs.Store.{Store, live-count, hurtful}
-use Rattle.model.proofs.Cases.{by-bool}
-use Rattle.model.proofs.Slots.{count-high}
-use Rattle.answers.specs.declared.Refusal.{Refusal}
-use Rattle.answers.specs.declared.Refusal.the-variants.{Sizes, Damaged, NoSlot}
+use Rattle.model.specs.Calls.{need, storedBy, after-insert, removedBy, after-remove, acted, capacity, after-make, copy, after-copy}
+use Rattle.answers.specs.declared.Refusal.the-variants.{Sizes, Damaged}
 use Rattle.answers.specs.declared.Outcome.the-variants as outcome
-use Rattle.answers.specs.declared.Counted.{Counted}
 use Rattle.answers.specs.declared.Counted.the-variants as counted
-use Rattle.answers.specs.declared.Emptiness.the-variants as emptiness
-use Rattle.answers.specs.declared.Reserved.the-variants as reserved
-use Rattle.answers.specs.Refusals.{numberOf}
-use Rattle.answers.specs.Numbers.{outcomeNumbers, countedNumbers, emptinessNumbers, reservedNumbers}
-use Rattle.answers.specs.Said.{doneSaid, countSaid, emptySaid, roomSaid, memberSaid, containedSaid, addedSaid, droppedSaid}
+use Rattle.answers.specs.Numbers.{outcomeNumbers, countedNumbers}
+use Rattle.answers.specs.Said.{doneSaid, countSaid, memberSaid, containedSaid, addedSaid, droppedSaid}
 use Rattle.arrays.specs.Whole.{copied}
 use Rattle.kinds.specs.declared.Probed.{Probed}
 use Rattle.kinds.specs.declared.Probed.the-variants.{Hit, Free}
@@ -35,35 +27,7 @@ use Rattle.kinds.proofs.Bridge.{seenOf, spotOf}
 use Rattle.ints.proofs.Bridge.{sized-is, get-probing, remove-probing, entry-probing, hit-slot, free-slot, scan-live, scan-bad}
 use Rattle.int_set.specs.Memory.{sets, memory}
 use Rattle.kinds.specs.Told.{told}
-use Rattle.int_set.specs.Calls.{makeOf, capacityOf, lenOf, isEmptyOf, reserveOf, getOf, containsOf, insertOf, removeOf, copyOf}
-
--- what a length says where it was counted, and where it was refused
-count-ok : (x : Or ℕ) (n : ℕ) → countedNumbers (counted.Count n) ≡ countSaid x → x ≡ ok n
-unfolding countedNumbers countSaid
-count-ok (no i) n e = let z : ⊥ = omega (arith, ap (λ a. a .case) e) in absurd z
-count-ok (ok y) n e = ap ok (sym (ap (λ a. a .value) e))
-
-count-no : (x : Or ℕ) (r : Refusal) → countedNumbers (counted.Refused r) ≡ countSaid x → x ≡ no (numberOf r)
-unfolding countedNumbers countSaid
-count-no (no i) r e = ap no (sym (ap (λ a. a .refusal) e))
-count-no (ok y) r e = let z : ⊥ = omega (arith, ap (λ a. a .case) e) in absurd z
-
-module _ {K W : Type 0} (M : Store K W) (m : M .State) where
-  length-ok : {n : ℕ} → model.length M m ≡ ok n → (M .sized m ≡ true) × (hurtful M m ≡ false) × (live-count M m ≡ n)
-  unfolding model.length need
-  length-ok e = by-bool (M .sized m)
-      (λ s. by-bool (hurtful M m)
-      (λ h. let z : _≡_ {A = ℕ} 0 1 = cc (rw (s, h) at e) in absurd (omega arith))
-      (λ h. (s, h, cc (rw (s, h) at e))))
-      (λ s. let z : _≡_ {A = ℕ} 0 1 = cc (rw s at e) in absurd (omega arith))
-
-  reserve-no : (asked : ℕ) {i : ℕ} → model.length M m ≡ no i → reserve M m asked ≡ no i
-  unfolding model.length reserve need
-  reserve-no asked e = by-bool (M .sized m)
-      (λ s. by-bool (hurtful M m)
-      (λ h. rw (s, h) (cc (rw (s, h) at e)))
-      (λ h. let z : _≡_ {A = ℕ} 0 1 = cc (rw (s, h) at e) in absurd (omega arith)))
-      (λ s. rw s (cc (rw s at e)))
+use Rattle.int_set.specs.Calls.{makeOf, capacityOf, lenOf, getOf, containsOf, insertOf, removeOf, copyOf}
 
 module _ (marks keys : List ℕ) where
   module _ {b : Bool} (p : b ≡ fitting marks keys) where
@@ -107,48 +71,6 @@ module _ (marks keys : List ℕ) where
     pub len-not : b ≡ false → countedNumbers (counted.Refused Sizes) ≡ lenOf (memory marks keys)
     unfolding lenOf model.length need countSaid countedNumbers
     len-not q = rw (unfit q)
-
-  module _ {r : Counted} (p : countedNumbers r ≡ lenOf (memory marks keys)) where
-    counted-ok : {n : ℕ} → r ≡ counted.Count n → model.length sets (memory marks keys) ≡ ok n
-    unfolding lenOf
-    counted-ok {n} q = count-ok (model.length sets (memory marks keys)) n (rw q at p)
-
-    counted-no : {x : Refusal} → r ≡ counted.Refused x → model.length sets (memory marks keys) ≡ no (numberOf x)
-    unfolding lenOf
-    counted-no {x} q = count-no (model.length sets (memory marks keys)) x (rw q at p)
-
-    -- is_empty
-    pub empty-none : {n : ℕ} → r ≡ counted.Count n → n ≡ 0 → emptinessNumbers emptiness.Empty ≡ isEmptyOf (memory marks keys)
-    unfolding isEmptyOf emptySaid emptinessNumbers
-    empty-none q e = rw (counted-ok q, e)
-
-    pub empty-some : {n : ℕ} → r ≡ counted.Count n → (n ≡ 0 → ⊥) → emptinessNumbers emptiness.Holds ≡ isEmptyOf (memory marks keys)
-    unfolding isEmptyOf emptySaid emptinessNumbers
-    empty-some {n} q h = rw (counted-ok q, ne-eqb n 0 h)
-
-    pub empty-not : {x : Refusal} → r ≡ counted.Refused x → emptinessNumbers (emptiness.Refused x) ≡ isEmptyOf (memory marks keys)
-    unfolding isEmptyOf emptySaid emptinessNumbers
-    empty-not q = rw (counted-no q)
-
-    -- reserve
-    sound-count : {n : ℕ} → r ≡ counted.Count n → (sets .sized (memory marks keys) ≡ true) × (hurtful sets (memory marks keys) ≡ false) × (live-count sets (memory marks keys) ≡ n)
-    sound-count q = length-ok sets (memory marks keys) (counted-ok q)
-
-    pub count-within : {n : ℕ} → r ≡ counted.Count n → n ≤ length marks
-    unfolding live-count
-    count-within q = let (a, b, l) = sound-count q in omega (arith, count-high (sets .slots (memory marks keys)) (length marks))
-
-    pub reserve-room : {n asked : ℕ} → r ≡ counted.Count n → asked ≤ length marks - n → reservedNumbers reserved.Room ≡ reserveOf (memory marks keys) asked
-    unfolding reserveOf reserve need roomSaid reservedNumbers
-    reserve-room {n} {asked} q l = let (a, b, e) = sound-count q in rw (a, b, e, le-leb asked (length marks - n) l)
-
-    pub reserve-none : {n asked : ℕ} → r ≡ counted.Count n → length marks - n < asked → reservedNumbers (reserved.Refused NoSlot) ≡ reserveOf (memory marks keys) asked
-    unfolding reserveOf reserve need roomSaid reservedNumbers
-    reserve-none {n} {asked} q l = let (a, b, e) = sound-count q in rw (a, b, e, lt-leb asked (length marks - n) l)
-
-    pub reserve-not : (asked : ℕ) {x : Refusal} → r ≡ counted.Refused x → reservedNumbers (reserved.Refused x) ≡ reserveOf (memory marks keys) asked
-    unfolding reserveOf roomSaid reservedNumbers
-    reserve-not asked {x} q = rw (reserve-no sets (memory marks keys) asked (counted-no q))
 
   -- the path calls, by what the probing found
   module _ (k : ℕ) {r : Probed} (p : r ≡ probing marks keys k) where

@@ -27,7 +27,7 @@ use Rattle.ints.proofs.Bridge.{scan-bad, scan-live}
 use Rattle.ints.specs.Maps.{maps}
 use Rattle.kinds.specs.Told.{told}
 use Rattle.int_union.specs.Calls.{unionOf, planOf, lacksOf, allStored}
-use Rattle.int_union.proofs.Paths.{one-length}
+use Rattle.ints.proofs.Seeking.{same-long}
 
 -- two answers that cannot be equal
 clash : {A : Type 0} → _≡_ {A = ℕ} 0 1 → A
@@ -106,7 +106,7 @@ module _ (l r : Cells values) {a : Outcome} (p : outcomeNumbers a ≡ planOf l r
       go : {u : Unit {0}} → union maps l r ≡ ok u → (fittingMap (l .marks) (l .keys) (l .words) ≡ true) × (length (r .keys) ≡ length (r .marks)) × (length (r .words) ≡ length (r .marks))
       go e = by-bool (maps .sized l)
           (λ f. by-bool (maps .sized r)
-          (λ g. let (x, y) = one-length (r .marks) (r .keys) (r .words) (sym g) refl in (f, x, y))
+          (λ g. let (x, y) = same-long (r .marks) (r .keys) (r .words) (sym g) refl in (f, x, y))
           (λ g. clash (cc (rw (f, g) at e))))
           (λ f. clash (cc (rw f at e)))
 

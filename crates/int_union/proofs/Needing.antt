@@ -23,7 +23,7 @@ use Rattle.kinds.specs.Probing.{along}
 use Rattle.ints.specs.Seeking.{fittingMap, seekingMap}
 use Rattle.ints.specs.Maps.{maps}
 use Rattle.int_union.specs.Calls.{lackOf, lacksOf}
-use Rattle.int_union.proofs.Paths.{path-sought}
+use Rattle.ints.proofs.Seeking.{path-sought}
 
 -- Whether a probing that ended so found no key.
 abbrev missedOf : Probed → Bool
@@ -49,8 +49,8 @@ lack-idle l (suc (suc (suc n))) key h = refl
 -- a live one by what the probing of its key found in the left
 module _ (marks keys vs : List ℕ) (mark k : ℕ) {r : Probed} (f : fittingMap marks keys vs ≡ true) (one : mark ≡ 1) (p : r ≡ seekingMap marks keys vs k) where
   lack-live : lackOf (memory marks keys vs) mark k ≡ cond (missedOf r) 1 0
-  unfolding lackOf cell weigh lacking
-  lack-live = rw (one, missed-along (length marks) (homeOfWord 0 (length marks) k) (path maps (memory marks keys vs) k), ← path-sought marks keys vs k p f)
+  unfolding lackOf cell weigh lacking fittingMap seekingMap
+  lack-live = rw (one, missed-along (length marks) (homeOfWord 0 (length marks) k) (path maps (memory marks keys vs) k), ← path-sought values (memory marks keys vs) k f, p)
 
   pub lack-hit : {s e : ℕ} → r ≡ probed.Hit s e → 0 ≡ lackOf (memory marks keys vs) mark k
   lack-hit q = rw (lack-live, q)

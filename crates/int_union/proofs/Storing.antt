@@ -23,7 +23,7 @@ use Rattle.kinds.specs.Probing.{along}
 use Rattle.ints.specs.Seeking.{fittingMap, seekingMap}
 use Rattle.ints.specs.Maps.{maps}
 use Rattle.int_union.specs.Calls.{slotStored, allStored}
-use Rattle.int_union.proofs.Paths.{path-sought}
+use Rattle.ints.proofs.Seeking.{path-sought}
 
 -- What the rule leaves where the probing of the key ended so.
 abbrev ruleOf : Cells values → ℕ → ℕ → Probed → Cells values
@@ -42,8 +42,8 @@ module _ (m : Cells values) (k v : ℕ) where
 -- the rule with no test, by what the probing found
 module _ (marks keys vs : List ℕ) (k v : ℕ) {r : Probed} (f : fittingMap marks keys vs ≡ true) (p : r ≡ seekingMap marks keys vs k) where
   rule-sought : rule maps (memory marks keys vs) k v ≡ ruleOf (memory marks keys vs) k v r
-  unfolding rule
-  rule-sought = rule-along (memory marks keys vs) k v (path maps (memory marks keys vs) k) ∙ ap (ruleOf (memory marks keys vs) k v) (sym (path-sought marks keys vs k p f))
+  unfolding rule fittingMap seekingMap
+  rule-sought = rule-along (memory marks keys vs) k v (path maps (memory marks keys vs) k) ∙ ap (ruleOf (memory marks keys vs) k v) (sym (p ∙ path-sought values (memory marks keys vs) k f))
 
   pub store-hit : {s e : ℕ} → r ≡ probed.Hit s e → memory marks keys (set vs s v) ≡ rule maps (memory marks keys vs) k v
   store-hit q = rw (rule-sought, q)

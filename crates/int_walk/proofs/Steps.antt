@@ -19,11 +19,12 @@ use Rattle.ints.specs.Memory.{memory}
 use Rattle.ints.specs.Scanning.{nexting}
 use Rattle.ints.specs.Seeking.{fittingMap}
 use Rattle.ints.proofs.Bridge.{paced-by}
+use Rattle.ints.proofs.Seeking.{same-long}
 use Rattle.int_walk.specs.declared.Paced.the-variants.{Pair, Nothing, Done}
 use Rattle.int_walk.specs.declared.Step.{Step}
 use Rattle.int_walk.specs.Calls.{paceOf, stepOf}
 use Rattle.int_walk.specs.Numbers.{pacedNumbers, stepNumbers}
-use Rattle.int_map.proofs.Laws.{fit, unfit, same-long}
+use Rattle.int_map.proofs.Laws.{fit, unfit}
 
 -- how many slots a step may look at
 pub reach-budget : (S at budget : ℕ) → budget ≤ S - at → budget ≡ reachOf S at budget

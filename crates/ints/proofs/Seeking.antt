@@ -4,21 +4,24 @@ use mathlib.Core.Bool.{Bool, true, false}
 use mathlib.Core.Path.{_≡_, refl, sym, _∙_}
 use native.Mathlib.Omega.{arith}
 use mathlib.Core.List.{List}
-use borrow.Author.Tests.{eq-eqb, ne-eqb}
+use borrow.Author.Tests.{eq-eqb, ne-eqb, eqb-true}
 use lib.Dec.{eqb}
 use lib.ListN.{length}
-use Rattle.model.specs.Store.{Store}
+use Rattle.model.specs.Store.{Store, path}
 use Rattle.answers.specs.declared.Refusal.the-variants.{Sizes}
 use Rattle.model.specs.Calls.{no, need, get, entry, remove}
-use Rattle.model.proofs.Cases.{by-bool}
+use Rattle.model.proofs.Cases.{both, by-bool}
+use Rattle.digest.specs.Home.{homeOfWord}
 use Rattle.kinds.specs.declared.Probed.{Probed}
 use Rattle.kinds.specs.declared.Probed.the-variants.{Hit, Free, Refused}
 use Rattle.kinds.specs.Columns.{Column, values}
+use Rattle.kinds.specs.Probing.{along}
 use Rattle.ints.specs.Memory.{Cells, cells, fitting, memory}
 use Rattle.ints.specs.Probing.{probing}
 use Rattle.ints.specs.Seeking.{seeking, fittingMap, seekingMap}
 use Rattle.kinds.proofs.Bridge.{seenOf, spotOf}
-use Rattle.ints.proofs.Bridge.{sized-is, sized-short, get-probing, remove-probing, entry-probing, hit-slot, free-slot}
+use Rattle.ints.proofs.Sizes.{fitting-says}
+use Rattle.ints.proofs.Bridge.{sized-is, sized-short, probing-path, get-probing, remove-probing, entry-probing, hit-slot, free-slot}
 
 module _ {K W : Type 0} (M : Store K W) (m : M .State) (k : K) (e : M .sized m ≡ false) where
   get-unsized : get M m k ≡ no 1
@@ -47,6 +50,11 @@ module _ {W : Type 0} (C : Column W) (m : Cells C) (k : ℕ) where
 
   pub entry-seeking : entry (cells C) m k ≡ spotOf (C .read (m .words)) (seeking C m k)
   entry-seeking = by-long (entry (cells C) m k) (spotOf (C .read (m .words))) (λ p e. entry-probing C m k p refl e) (λ e. entry-unsized (cells C) m k e)
+
+  -- right sizes: the probing is the path
+  pub path-sought : cells C .sized m ≡ true → seeking C m k ≡ along (length (m .marks)) (homeOfWord 0 (length (m .marks)) k) (path (cells C) m k)
+  unfolding seeking
+  path-sought e = let (a, b) = both (fitting (m .marks) (m .keys)) (C .long (m .words) (length (m .marks))) (sym (sized-is C m) ∙ e) in rw b (probing-path C m k a)
 
   -- a slot that the probing answers is one of the table's
   module _ {r : Probed} (p : r ≡ seeking C m k) where
@@ -81,3 +89,20 @@ module _ (marks keys vs : List ℕ) where
   pub seek-short : (k : ℕ) → (length marks ≡ length vs → ⊥) → Refused Sizes ≡ seekingMap marks keys vs k
   unfolding seekingMap seeking
   seek-short k h = rw (ne-eqb (length marks) (length vs) h)
+
+  -- right sizes: the three arrays are of one length
+  pub same-long : {b : Bool} → b ≡ fittingMap marks keys vs → b ≡ true → (length keys ≡ length marks) × (length vs ≡ length marks)
+  unfolding fittingMap
+  same-long p q =
+      let (a, d) = both (fitting marks keys) (eqb (length marks) (length vs)) (sym (sized-is values (memory marks keys vs)) ∙ sym p ∙ q) in
+      (fitting-says marks keys a .1, sym (eqb-true (length marks) (length vs) d))
+
+  -- a slot that the probing answers is inside all three arrays
+  module _ (k : ℕ) {r : Probed} (p : r ≡ seekingMap marks keys vs k) where
+    pub hit-inside : {s e : ℕ} → r ≡ Hit s e → (s < length marks) × (s < length keys) × (s < length vs)
+    unfolding seekingMap
+    hit-inside q = let (a, b, l) = sought-hit values (memory marks keys vs) k p q in (a, omega arith, omega (arith, eqb-true (length marks) (length vs) l))
+
+    pub free-inside : {s e : ℕ} → r ≡ Free s e → (s < length marks) × (s < length keys) × (s < length vs)
+    unfolding seekingMap
+    free-inside q = let (a, b, l) = sought-free values (memory marks keys vs) k p q in (a, omega arith, omega (arith, eqb-true (length marks) (length vs) l))

@@ -1,7 +1,9 @@
 -- The laws that all kinds of tables share.
 pub mod Bridge
 pub mod Columns
+pub mod Counts
 pub mod Scanning
 pub mod Settled
 pub mod Published
+pub mod Told
 pub mod Trail

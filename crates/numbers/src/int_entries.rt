@@ -1,6 +1,7 @@
 // The integer map's entries: the numbers of their answers, and the entry answer that a case number and a slot are.
 ghost use mathlib.Core.Path.{_≡_};
-ghost use Rattle.int_entry.specs.Numbers.{enteredNumbers, heldNumbers, swappedNumbers, takenNumbers, takenEntryNumbers, standingNumbers};
+ghost use Rattle.int_entry.specs.Numbers.{enteredNumbers};
+ghost use Rattle.int_handles.specs.Numbers.{heldNumbers, swappedNumbers, takenNumbers, takenEntryNumbers, standingNumbers};
 ghost use Rattle.int_entry.specs.Calls.{handleOf};
 ghost use Rattle.numbers.specs.Handed.{Hands};
 use answers::Numbers;
@@ -8,13 +9,13 @@ use answers::Refusal;
 use answers::case_numbers;
 use answers::refusal_numbers;
 use int_entry::Entered;
-use int_entry::Held;
-use int_entry::Occupied;
-use int_entry::Standing;
-use int_entry::Swapped;
-use int_entry::Taken;
-use int_entry::TakenEntry;
-use int_entry::Vacant;
+use int_handles::Held;
+use int_handles::Occupied;
+use int_handles::Standing;
+use int_handles::Swapped;
+use int_handles::Taken;
+use int_handles::TakenEntry;
+use int_handles::Vacant;
 
 // The numbers of entry.
 pub fn entered_numbers(a: Entered) -> Numbers

@@ -11,9 +11,10 @@ use Rattle.ints.specs.Maps.{maps}
 use Rattle.int_map.specs.Calls.{makeOf, capacityOf, lenOf, isEmptyOf, reserveOf, getOf, containsKeyOf, insertOf, removeOf, copyOf}
 use Rattle.int_union.specs.Calls.{unionOf}
 use Rattle.int_walk.specs.Calls.{stepOf}
+use Rattle.int_handles.specs.Calls.{setOf, removeEntryOf}
+use Rattle.int_handles.specs.Calls as handles
 use Rattle.int_entry.specs.declared.Entered.{Entered}
-use Rattle.int_entry.specs.Calls.{entryOf, setOf, removeEntryOf, handleOf, orInsertOf, insertEntryOf}
-use Rattle.int_entry.specs.Calls as entries
+use Rattle.int_entry.specs.Calls.{entryOf, handleOf, orInsertOf, insertEntryOf}
 
 -- One constructor for each published call: keys, values, slots and budgets are numbers, another table is its number.
 pub data Call : Type 0 where
@@ -38,12 +39,12 @@ told-by w x (entry k) = told (entryOf (w x) k) (w x)
 told-by w x (copy y) = copyOf (w x) (w y)
 told-by w x (union-prefer-right y) = unionOf (w x) (w y)
 told-by w x (insert k v) = insertOf (w x) k v
-told-by w x (occupied-get s k) = told (entries.getOf (w x) s k) (w x)
-told-by w x (occupied-remove s k) = entries.removeOf (w x) s k
+told-by w x (occupied-get s k) = told (handles.getOf (w x) s k) (w x)
+told-by w x (occupied-remove s k) = handles.removeOf (w x) s k
 told-by w x (occupied-remove-entry s k) = removeEntryOf (w x) s k
 told-by w x (step at budget) = told (stepOf (w x) at budget) (w x)
 told-by w x (occupied-set s k v) = setOf (w x) s k v
-told-by w x (vacant-insert s k v) = entries.insertOf (w x) s k v
+told-by w x (vacant-insert s k v) = handles.insertOf (w x) s k v
 told-by w x (or-insert e k v) = orInsertOf (w x) (handleOf (length (w x .marks)) e) k v
 told-by w x (insert-entry e k v) = insertEntryOf (w x) (handleOf (length (w x .marks)) e) k v
 

@@ -1,6 +1,6 @@
 -- `byte_map::is_empty` meets its contract: as the length, told as whether it is 0.
 use borrow.Author.Needs.{needs}
-use Rattle.byte_map.proofs.Counting.{empty-none, empty-some, empty-not}
+use Rattle.kinds.proofs.Counts.{empty-none, empty-some, empty-not}
 use Rattle.byte_map.proofs.is_empty.Statement.{statement}
 use Rattle.byte_map.proofs.is_empty.Tie as tie
 

@@ -1,7 +1,7 @@
 -- `byte_map::reserve` meets its contract: refusals 1, 5 and 7, or room.
 use borrow.Author.Needs.{needs}
 use native.Mathlib.Omega.{arith}
-use Rattle.byte_map.proofs.Counting.{count-within, reserve-room, reserve-none, reserve-not}
+use Rattle.kinds.proofs.Counts.{count-within, reserve-room, reserve-none, reserve-not}
 use Rattle.byte_map.proofs.reserve.Statement.{statement}
 use Rattle.byte_map.proofs.reserve.Tie as tie
 

@@ -1,6 +1,7 @@
 -- `int_entry::entry` meets its contract: each way in which the probing ends is an answer.
 use native.Mathlib.Omega.{arith}
-use Rattle.int_entry.proofs.Places.{hit-inside, entry-hit, entry-free, entry-full, entry-refused}
+use Rattle.ints.proofs.Seeking.{hit-inside}
+use Rattle.int_entry.proofs.Places.{entry-hit, entry-free, entry-full, entry-refused}
 use borrow.Author.Needs.{needs}
 use Rattle.int_entry.proofs.entry.Statement.{statement}
 use Rattle.int_entry.proofs.entry.Tie as tie

@@ -1,7 +1,8 @@
 -- `int_map::get` meets its contract: what the probing found, with the value in its slot.
 use borrow.Author.Needs.{needs}
 use native.Mathlib.Omega.{arith}
-use Rattle.int_map.proofs.Laws.{hit-inside, get-hit, get-free, get-full, get-refused}
+use Rattle.ints.proofs.Seeking.{hit-inside}
+use Rattle.int_map.proofs.Laws.{get-hit, get-free, get-full, get-refused}
 use Rattle.int_map.proofs.get.Statement.{statement}
 use Rattle.int_map.proofs.get.Tie as tie
 

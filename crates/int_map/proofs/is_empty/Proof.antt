@@ -1,6 +1,9 @@
 -- `int_map::is_empty` meets its contract: as the length, told as whether it is 0.
 use borrow.Author.Needs.{needs}
-use Rattle.int_map.proofs.Laws.{empty-none, empty-some, empty-not}
+use Rattle.kinds.specs.Calls as kinds
+use Rattle.kinds.proofs.Counts.{empty-none, empty-some, empty-not}
+use Rattle.ints.specs.Maps.{maps}
+use Rattle.int_map.specs.Calls.{lenOf, isEmptyOf}
 use Rattle.int_map.proofs.is_empty.Statement.{statement}
 use Rattle.int_map.proofs.is_empty.Tie as tie
 
@@ -11,16 +14,19 @@ enum-known-count : tie.Need-enum-known-count
 enum-known-count c = search needs
 
 returns : tie.Need-returns
-returns c = empty-none _ _ _ (c .before .before .before .before .len .ensures) (c .before .before .count .given .1) (c .if1 .taken)
+unfolding lenOf isEmptyOf kinds.lenOf kinds.isEmptyOf
+returns c = empty-none maps _ (c .before .before .before .before .len .ensures) (c .before .before .count .given .1) (c .if1 .taken)
 
 enum-known-count-2 : tie.Need-enum-known-count-2
 enum-known-count-2 c = search needs
 
 returns-2 : tie.Need-returns-2
-returns-2 c = empty-some _ _ _ (c .before .before .before .before .len .ensures) (c .before .before .count .given .1) (c .if1 .left)
+unfolding lenOf isEmptyOf kinds.lenOf kinds.isEmptyOf
+returns-2 c = empty-some maps _ (c .before .before .before .before .len .ensures) (c .before .before .count .given .1) (c .if1 .left)
 
 returns-3 : tie.Need-returns-3
-returns-3 c = empty-not _ _ _ (c .before .before .before .len .ensures) (c .before .count2 .given .1)
+unfolding lenOf isEmptyOf kinds.lenOf kinds.isEmptyOf
+returns-3 c = empty-not maps _ (c .before .before .before .len .ensures) (c .before .count2 .given .1)
 
 pub is-empty-spec : {M : Type 1} → statement M
 is-empty-spec =

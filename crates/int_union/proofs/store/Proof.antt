@@ -1,6 +1,6 @@
 -- `int_union::store` meets its contract: the key's slot, or the first free one, by how the probing ends.
 use native.Mathlib.Omega.{arith}
-use Rattle.int_union.proofs.Paths.{hit-inside, free-inside}
+use Rattle.ints.proofs.Seeking.{hit-inside, free-inside}
 use Rattle.int_union.proofs.Storing.{store-hit, store-free, store-full, store-refused}
 use borrow.Author.Needs.{needs}
 use Rattle.int_union.proofs.store.Statement.{statement}

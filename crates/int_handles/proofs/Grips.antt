@@ -1,49 +1,38 @@
 -- Occupied handles: what the slot says, and what get, set, remove and remove_entry tell and leave by it.
 use Prim.Native.Nat.{ℕ, zero, suc, _≤_, _<_}
-use mathlib.Core.Bool.{Bool, true, false, _&&_}
+use mathlib.Core.Bool.{Bool, true, false}
 use mathlib.Core.List.{List}
-use mathlib.Core.Path.{_≡_, refl, sym, _∙_, ap, ap₂}
+use mathlib.Core.Path.{_≡_, refl, sym, _∙_, ap}
 use native.Mathlib.Omega.{arith}
-use borrow.Author.Tests.{lt-ltb, le-ltb, eqb-true}
-use lib.Dec.{eqb}
+use borrow.Author.Tests.{lt-ltb, le-ltb}
 use lib.ListN.{length, getD, set}
 use Rattle.model.specs.Calls.{Or, no, ok, need, pass, gripOn, grip, occupied-get, after-set, occupied-remove, after-drop, acted}
-use Rattle.model.proofs.Cases.{both, by-bool, by-lt}
-use Rattle.digest.specs.Home.{slotsFit}
+use Rattle.model.proofs.Cases.{by-bool, by-lt}
 use Rattle.answers.specs.declared.Refusal.{Refusal}
 use Rattle.answers.specs.declared.Refusal.the-variants.{Sizes, BadHandle}
 use Rattle.answers.specs.declared.Numbers.{Numbers}
 use Rattle.answers.specs.Refusals.{numberOf}
-use Rattle.kinds.specs.Columns.{values}
 use Rattle.kinds.specs.Marks.{cell}
-use Rattle.ints.specs.Memory.{Cells, memory}
+use Rattle.ints.specs.Memory.{memory}
 use Rattle.ints.specs.Seeking.{fittingMap}
-use Rattle.int_entry.specs.declared.Occupied.{Occupied}
-use Rattle.int_entry.specs.declared.Held.{Held}
-use Rattle.int_entry.specs.declared.Held.the-variants as held
-use Rattle.int_entry.specs.declared.Swapped.the-variants as swapped
-use Rattle.int_entry.specs.declared.Taken.{Taken}
-use Rattle.int_entry.specs.declared.Taken.the-variants as taken
-use Rattle.int_entry.specs.declared.TakenEntry.the-variants as taken-entry
+use Rattle.ints.proofs.Seeking.{same-long}
+use Rattle.int_handles.specs.declared.Occupied.{Occupied}
+use Rattle.int_handles.specs.declared.Held.{Held}
+use Rattle.int_handles.specs.declared.Held.the-variants as held
+use Rattle.int_handles.specs.declared.Swapped.the-variants as swapped
+use Rattle.int_handles.specs.declared.Taken.{Taken}
+use Rattle.int_handles.specs.declared.Taken.the-variants as taken
+use Rattle.int_handles.specs.declared.TakenEntry.the-variants as taken-entry
 use Rattle.ints.specs.Maps.{maps}
 use Rattle.kinds.specs.Told.{told}
+use Rattle.kinds.proofs.Told.{said, left, retold}
 use Rattle.answers.specs.Said.{heldSaid, swappedSaid, takenSaid, takenEntrySaid}
-use Rattle.int_entry.specs.Numbers.{heldNumbers, swappedNumbers, takenNumbers, takenEntryNumbers}
-use Rattle.int_entry.specs.Calls.{getOf, setOf, removeOf, removeEntryOf}
+use Rattle.int_handles.specs.Numbers.{heldNumbers, swappedNumbers, takenNumbers, takenEntryNumbers}
+use Rattle.int_handles.specs.Calls.{getOf, setOf, removeOf, removeEntryOf}
 
 -- two answers that cannot be equal
 clash : {A : Type 0} → _≡_ {A = ℕ} 0 1 → A
 clash e = absurd (omega arith)
-
--- what is told and what is left, apart and together
-pub said : {a b : Numbers} {m n : Cells values} → told a m ≡ told b n → a ≡ b
-said e = ap (λ t. t .numbers) e
-
-pub left : {a b : Numbers} {m n : Cells values} → told a m ≡ told b n → m ≡ n
-left e = ap (λ t. t .memory) e
-
-pub retold : {a b : Numbers} {m n : Cells values} → a ≡ b → m ≡ n → told a m ≡ told b n
-retold p q = ap₂ (λ a m. told a m) p q
 
 -- a mark of 0 or 2 is no good handle's
 pub idle : (mark a v k : ℕ) → mark ≤ 2 → (mark ≡ 1 → ⊥) → gripOn maps k (cell mark a v) ≡ no 6
@@ -75,14 +64,6 @@ taken-no (no n) p q = ap no (sym (ap (λ n. n .refusal) (rw q at p)))
 taken-no (ok w) p q = let z : ⊥ = omega (arith, ap (λ n. n .case) (rw q at p)) in absurd z
 
 module _ (marks keys vs : List ℕ) where
-  -- right sizes: one length
-  pub one-length : {b : Bool} → b ≡ fittingMap marks keys vs → b ≡ true → (length keys ≡ length marks) × (length vs ≡ length marks)
-  unfolding fittingMap
-  one-length p q =
-      let (a, b) = both (slotsFit (length marks)) (eqb (length marks) (length keys) && eqb (length marks) (length vs)) (sym p ∙ q) in
-      let (c, d) = both (eqb (length marks) (length keys)) (eqb (length marks) (length vs)) b in
-      (sym (eqb-true (length marks) (length keys) c), sym (eqb-true (length marks) (length vs) d))
-
   module _ (s k : ℕ) where
     -- the handle's test, one test after the other
     module _ {b : Bool} (p : b ≡ fittingMap marks keys vs) where
@@ -104,7 +85,7 @@ module _ (marks keys vs : List ℕ) where
     good-slot e =
         by-bool (maps .sized (memory marks keys vs))
         (λ f. by-lt s (length marks)
-        (λ l t. let (a, b) = one-length (sym f) refl in (l, a, b))
+        (λ l t. let (a, b) = same-long marks keys vs (sym f) refl in (l, a, b))
         (λ l t. clash (cc (rw (f, t) at e))))
         (λ f. clash (cc (rw f at e)))
 

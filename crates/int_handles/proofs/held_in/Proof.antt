@@ -1,13 +1,13 @@
--- `int_entry::held_in` meets its contract: damage, the live slot with the key, or no good handle.
+-- `int_handles::held_in` meets its contract: damage, the live slot with the key, or no good handle.
 use borrow.Author.Tests.{eq-eqb, ne-eqb}
 use Rattle.model.specs.Calls.{need, gripOn}
 use Rattle.kinds.specs.Marks.{cell}
 use Rattle.kinds.proofs.Scanning.{cell-bad}
 use Rattle.answers.specs.Said.{heldSaid}
-use Rattle.int_entry.specs.Numbers.{heldNumbers}
-use Rattle.int_entry.proofs.Grips.{idle}
-use Rattle.int_entry.proofs.held_in.Statement.{statement}
-use Rattle.int_entry.proofs.held_in.Tie as tie
+use Rattle.int_handles.specs.Numbers.{heldNumbers}
+use Rattle.int_handles.proofs.Grips.{idle}
+use Rattle.int_handles.proofs.held_in.Statement.{statement}
+use Rattle.int_handles.proofs.held_in.Tie as tie
 
 returns : tie.Need-returns
 unfolding heldNumbers heldSaid gripOn

@@ -1,9 +1,9 @@
 -- `Occupied::set` meets its contract: a good handle's value changes, a refusal leaves all.
 use native.Mathlib.Omega.{arith}
-use Rattle.int_entry.proofs.Grips.{held-slot, set-done, set-refused}
+use Rattle.int_handles.proofs.Grips.{held-slot, set-done, set-refused}
 use borrow.Author.Needs.{needs}
-use Rattle.int_entry.proofs.Occupied.set.Statement.{statement}
-use Rattle.int_entry.proofs.Occupied.set.Tie as tie
+use Rattle.int_handles.proofs.Occupied.set.Statement.{statement}
+use Rattle.int_handles.proofs.Occupied.set.Tie as tie
 
 grip-requires : tie.Need-grip-requires
 grip-requires c κs = search needs

@@ -1,9 +1,10 @@
--- `int_entry::grip` meets its contract: sizes, then the slot number, then what the slot holds.
+-- `int_handles::grip` meets its contract: sizes, then the slot number, then what the slot holds.
 use native.Mathlib.Omega.{arith}
-use Rattle.int_entry.proofs.Grips.{one-length, grip-held, grip-beyond, grip-unfit}
+use Rattle.ints.proofs.Seeking.{same-long}
+use Rattle.int_handles.proofs.Grips.{grip-held, grip-beyond, grip-unfit}
 use borrow.Author.Needs.{needs}
-use Rattle.int_entry.proofs.grip.Statement.{statement}
-use Rattle.int_entry.proofs.grip.Tie as tie
+use Rattle.int_handles.proofs.grip.Statement.{statement}
+use Rattle.int_handles.proofs.grip.Tie as tie
 
 map-fits-requires : tie.Need-map-fits-requires
 map-fits-requires c κs = search needs
@@ -12,16 +13,16 @@ shared-slice-read-held-in : tie.Need-shared-slice-read-held-in
 shared-slice-read-held-in c = search needs
 
 mul-held-in : tie.Need-mul-held-in
-mul-held-in c = let (a, b) = one-length _ _ _ (c .before .before .before .map-fits .ensures) (c .before .before .if1 .taken) in search needs
+mul-held-in c = let (a, b) = same-long _ _ _ (c .before .before .before .map-fits .ensures) (c .before .before .if1 .taken) in search needs
 
 shared-slice-read-held-in-2 : tie.Need-shared-slice-read-held-in-2
-shared-slice-read-held-in-2 c = let (a, b) = one-length _ _ _ (c .before .before .before .before .map-fits .ensures) (c .before .before .before .if1 .taken) in omega arith
+shared-slice-read-held-in-2 c = let (a, b) = same-long _ _ _ (c .before .before .before .before .map-fits .ensures) (c .before .before .before .if1 .taken) in omega arith
 
 mul-held-in-2 : tie.Need-mul-held-in-2
-mul-held-in-2 c = let (a, b) = one-length _ _ _ (c .before .before .before .before .map-fits .ensures) (c .before .before .before .if1 .taken) in search needs
+mul-held-in-2 c = let (a, b) = same-long _ _ _ (c .before .before .before .before .map-fits .ensures) (c .before .before .before .if1 .taken) in search needs
 
 shared-slice-read-held-in-3 : tie.Need-shared-slice-read-held-in-3
-shared-slice-read-held-in-3 c = let (a, b) = one-length _ _ _ (c .before .before .before .before .before .map-fits .ensures) (c .before .before .before .before .if1 .taken) in omega arith
+shared-slice-read-held-in-3 c = let (a, b) = same-long _ _ _ (c .before .before .before .before .before .map-fits .ensures) (c .before .before .before .before .if1 .taken) in omega arith
 
 held-in-requires : tie.Need-held-in-requires
 held-in-requires c κs = search needs

@@ -1,8 +1,8 @@
 -- `Occupied::remove_entry` meets its contract: the remove, with the key.
-use Rattle.int_entry.proofs.Grips.{remove-entry-done, remove-entry-refused}
+use Rattle.int_handles.proofs.Grips.{remove-entry-done, remove-entry-refused}
 use borrow.Author.Needs.{needs}
-use Rattle.int_entry.proofs.Occupied.remove_entry.Statement.{statement}
-use Rattle.int_entry.proofs.Occupied.remove_entry.Tie as tie
+use Rattle.int_handles.proofs.Occupied.remove_entry.Statement.{statement}
+use Rattle.int_handles.proofs.Occupied.remove_entry.Tie as tie
 
 remove-requires : tie.Need-remove-requires
 remove-requires c κs = search needs

@@ -1,9 +1,9 @@
 -- `Occupied::remove` meets its contract: a good handle's slot is freed, a refusal leaves all.
 use native.Mathlib.Omega.{arith}
-use Rattle.int_entry.proofs.Grips.{held-slot, remove-done, remove-refused}
+use Rattle.int_handles.proofs.Grips.{held-slot, remove-done, remove-refused}
 use borrow.Author.Needs.{needs}
-use Rattle.int_entry.proofs.Occupied.remove.Statement.{statement}
-use Rattle.int_entry.proofs.Occupied.remove.Tie as tie
+use Rattle.int_handles.proofs.Occupied.remove.Statement.{statement}
+use Rattle.int_handles.proofs.Occupied.remove.Tie as tie
 
 grip-requires : tie.Need-grip-requires
 grip-requires c κs = search needs

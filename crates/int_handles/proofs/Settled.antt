@@ -1,0 +1,30 @@
+-- Each contract settles its answer and the lent arrays: two results that it allows are equal.
+use Prim.Native.Nat.{ℕ}
+use Rattle.kinds.specs.Columns.{values}
+use Rattle.kinds.specs.Told.{Settled, SettledWith}
+use Rattle.kinds.proofs.Settled.{settled, settled-with}
+use Rattle.ints.specs.Memory.{Cells}
+use Rattle.int_handles.specs.Numbers.{heldNumbers, swappedNumbers, takenNumbers, takenEntryNumbers, standingNumbers}
+use Rattle.int_handles.specs.Calls.{getOf, setOf, removeOf, removeEntryOf, insertOf}
+use Rattle.int_handles.proofs.Equal.{heldNumbers-injective, swappedNumbers-injective, takenNumbers-injective, takenEntryNumbers-injective, standingNumbers-injective}
+
+module _ (m : Cells values) where
+  -- `Occupied::get`.
+  pub get-settled : (s k : ℕ) → Settled heldNumbers (getOf m s k)
+  get-settled s k = settled heldNumbers-injective
+
+  -- `Occupied::set`.
+  pub set-settled : (s k v : ℕ) → SettledWith swappedNumbers (setOf m s k v)
+  set-settled s k v = settled-with swappedNumbers-injective
+
+  -- `Occupied::remove`.
+  pub remove-settled : (s k : ℕ) → SettledWith takenNumbers (removeOf m s k)
+  remove-settled s k = settled-with takenNumbers-injective
+
+  -- `Occupied::remove_entry`.
+  pub remove-entry-settled : (s k : ℕ) → SettledWith takenEntryNumbers (removeEntryOf m s k)
+  remove-entry-settled s k = settled-with takenEntryNumbers-injective
+
+  -- `Vacant::insert`.
+  pub insert-settled : (s k v : ℕ) → SettledWith standingNumbers (insertOf m s k v)
+  insert-settled s k v = settled-with standingNumbers-injective
