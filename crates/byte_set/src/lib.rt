@@ -2,7 +2,6 @@
 ghost use mathlib.Core.Path.{_≡_};
 ghost use Prim.Native.Nat.{_+_, _≤_};
 ghost use lib.ListN.{length};
-ghost use Rattle.model.specs.Walk.{reachOf};
 ghost use Rattle.answers.specs.Numbers.{outcomeNumbers, countedNumbers, emptinessNumbers, reservedNumbers, spannedNumbers, containedNumbers, joinedNumbers, droppedNumbers};
 ghost use Rattle.kinds.specs.Calls.{makeOf, capacityOf, lenOf, isEmptyOf, reserveOf, containsOf, copyOf, droppedOf};
 ghost use Rattle.kinds.specs.Told.{told};
@@ -23,6 +22,7 @@ use arrays::copy_shorts;
 use kinds::Next;
 use kinds::Probed;
 use kinds::Scanned;
+use kinds::reach;
 use spans::Located;
 use spans::Placed;
 use spans::len_at;
@@ -239,17 +239,6 @@ fn refused(at: usize, why: Refusal) -> Step
         out: Paced::Refused(why),
         examined: 0,
     }
-}
-
-// How many slots a step may look at: its budget, and no more than there are from here.
-fn reach(size: usize, at: usize, budget: u64) -> usize
-    requires { ⌜ at ≤ size ⌝ }
-    ensures { λ r. ⌜ r ≡ reachOf size at budget ⌝ }
-{
-    if budget <= (size - at) as u64 {
-        return budget as usize;
-    }
-    size - at
 }
 
 // The slots of a step: up to the first live one, within so many.
