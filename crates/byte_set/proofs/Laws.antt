@@ -2,11 +2,10 @@
 use Prim.Native.Nat.{ℕ}
 use mathlib.Core.Bool.{Bool, true, false}
 use mathlib.Core.List.{List}
-use mathlib.Core.Path.{_≡_, refl, sym, _∙_}
-use borrow.Author.Tests.{eq-eqb, ne-eqb}
+use mathlib.Core.Path.{_≡_, refl}
 use lib.ListN.{length, getD}
 use Rattle.model.specs.Calls as model
-use Rattle.model.specs.Calls.{need, storedBy, after-insert, removedBy, after-remove, acted, capacity, after-make, copy, after-copy}
+use Rattle.model.specs.Calls.{need, storedBy, after-insert, removedBy, after-remove, acted, capacity, after-make}
 use Rattle.answers.specs.declared.Refusal.the-variants.{Sizes, Damaged}
 use Rattle.answers.specs.declared.Outcome.the-variants as outcome
 use Rattle.answers.specs.declared.Counted.the-variants as counted
@@ -15,12 +14,11 @@ use Rattle.answers.specs.declared.Joined.the-variants as joined
 use Rattle.answers.specs.declared.Dropped.the-variants as dropped
 use Rattle.answers.specs.Numbers.{outcomeNumbers, countedNumbers, spannedNumbers, joinedNumbers, droppedNumbers}
 use Rattle.answers.specs.Said.{doneSaid, countSaid, spannedSaid, containedSaid, joinedSaid, droppedSaid}
-use Rattle.arrays.specs.Whole.{copied}
 use Rattle.kinds.specs.declared.Probed.{Probed}
 use Rattle.kinds.specs.declared.Probed.the-variants as probed
 use Rattle.kinds.specs.declared.Scanned.{Scanned}
 use Rattle.kinds.specs.declared.Scanned.the-variants as scanned
-use Rattle.kinds.specs.Calls.{makeOf, capacityOf, lenOf, containsOf, copyOf, droppedOf}
+use Rattle.kinds.specs.Calls.{makeOf, capacityOf, lenOf, containsOf, droppedOf}
 use Rattle.kinds.specs.Columns.{nothing}
 use Rattle.kinds.specs.Told.{told}
 use Rattle.kinds.proofs.Bridge.{seenOf}
@@ -28,14 +26,13 @@ use Rattle.spans.specs.declared.Placed.{Placed}
 use Rattle.spans.specs.declared.Placed.the-variants as placed
 use Rattle.spans.specs.declared.Located.{Located}
 use Rattle.spans.specs.declared.Located.the-variants as located
-use Rattle.spans.specs.Memory.{Spans, Strings, spansOf, usedOf, fitting, filled, emptied, wiped}
+use Rattle.spans.specs.Memory.{Spans, Strings, usedOf, fitting, filled, emptied, wiped}
 use Rattle.spans.specs.Sound.{offsetAt, lengthAt}
 use Rattle.spans.specs.Kinds.{sets, joinOf, spanOf}
 use Rattle.spans.specs.Planning.{placing, locating}
 use Rattle.spans.specs.Probing.{probing}
 use Rattle.spans.specs.Scanning.{scanning}
 use Rattle.spans.proofs.Bridge.{spotOf, lostOf, get-probing, remove-locating, entry-placing, scan-live, scan-bad}
-use Rattle.spans.proofs.Sizes.{fitting-says}
 use Rattle.arena.proofs.Plans.{place-fillable}
 
 -- The lent lists of a set as one record.
@@ -119,35 +116,3 @@ module _ (s : Spans) where
     pub remove-hit : {i e u : ℕ} {t : Spans} → r ≡ located.Hit i e u → t ≡ emptied s i → told (droppedNumbers (dropped.Removed i e)) (setOf t) ≡ droppedOf sets (setOf s) k
     unfolding droppedNumbers droppedSaid removedBy
     remove-hit q x = rw x (remove-says q)
-
-copied-whole : (to from : List ℕ) {a : List ℕ} → length to ≡ length from → a ≡ copied to from → a ≡ from
-unfolding copied
-copied-whole to from e p = p ∙ (rw (eq-eqb (length to) (length from) e))
-
--- copy onto the first table from the other
-module _ (s t : Spans) {b : Bool} (p : b ≡ fitting s) where
-  pub copy-unfit : b ≡ false → told (outcomeNumbers (outcome.Refused Sizes)) (setOf s) ≡ copyOf sets (setOf s) (setOf t)
-  unfolding copyOf copy after-copy acted need doneSaid outcomeNumbers
-  copy-unfit q = rw (unfit s p q)
-
-  module _ (q : b ≡ true) {d : Bool} (r : d ≡ fitting t) where
-    pub copy-from-unfit : d ≡ false → told (outcomeNumbers (outcome.Refused Sizes)) (setOf s) ≡ copyOf sets (setOf s) (setOf t)
-    unfolding copyOf copy after-copy acted need doneSaid outcomeNumbers
-    copy-from-unfit h = rw (fit s p q, unfit t r h)
-
-    module _ (h : d ≡ true) where
-      pub copy-slots-unequal : (length (s .marks) ≡ length (t .marks) → ⊥) → told (outcomeNumbers (outcome.Refused Sizes)) (setOf s) ≡ copyOf sets (setOf s) (setOf t)
-      unfolding copyOf copy after-copy acted need doneSaid outcomeNumbers
-      copy-slots-unequal n = rw (fit s p q, fit t r h, ne-eqb (length (s .marks)) (length (t .marks)) n)
-
-      module _ (e : length (s .marks) ≡ length (t .marks)) where
-        pub copy-bytes-unequal : (length (s .arena) ≡ length (t .arena) → ⊥) → told (outcomeNumbers (outcome.Refused Sizes)) (setOf s) ≡ copyOf sets (setOf s) (setOf t)
-        unfolding copyOf copy after-copy acted need doneSaid outcomeNumbers
-        copy-bytes-unequal n = rw (fit s p q, fit t r h, eq-eqb (length (s .marks)) (length (t .marks)) e, ne-eqb (length (s .arena)) (length (t .arena)) n)
-
-        pub copy-done : length (s .arena) ≡ length (t .arena) → {x y z w : List ℕ} → x ≡ copied (s .marks) (t .marks) → y ≡ copied (s .offsets) (t .offsets) → z ≡ copied (s .lengths) (t .lengths) → w ≡ copied (s .arena) (t .arena) → told (outcomeNumbers outcome.Done) (setOf (spansOf x y z w)) ≡ copyOf sets (setOf s) (setOf t)
-        unfolding copyOf copy after-copy acted need doneSaid outcomeNumbers
-        copy-done a f g i j =
-            let m = fitting-says s (sym p ∙ q) in
-            let n = fitting-says t (sym r ∙ h) in
-            rw (fit s p q, fit t r h, eq-eqb (length (s .marks)) (length (t .marks)) e, eq-eqb (length (s .arena)) (length (t .arena)) a, copied-whole (s .marks) (t .marks) e f, copied-whole (s .offsets) (t .offsets) (m .offsets ∙ e ∙ sym (n .offsets)) g, copied-whole (s .lengths) (t .lengths) (m .lengths ∙ e ∙ sym (n .lengths)) i, copied-whole (s .arena) (t .arena) a j)

@@ -1,6 +1,4 @@
 -- The laws of byte sets.
 pub mod Counts
 pub mod Laws
-pub mod Steps
-pub mod Equal
 pub mod Settled

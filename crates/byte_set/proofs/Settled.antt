@@ -1,19 +1,14 @@
 -- Each contract settles its answer and the lent arrays: two results that it allows are equal.
 use Prim.Native.Nat.{ℕ}
 use mathlib.Core.List.{List}
-use mathlib.Core.Path.{_≡_, sym, _∙_}
 use Rattle.answers.specs.Numbers.{outcomeNumbers, countedNumbers, emptinessNumbers, reservedNumbers, spannedNumbers, containedNumbers, joinedNumbers, droppedNumbers}
 use Rattle.answers.proofs.Equal.{outcomeNumbers-injective, countedNumbers-injective, emptinessNumbers-injective, reservedNumbers-injective, spannedNumbers-injective, containedNumbers-injective, joinedNumbers-injective, droppedNumbers-injective}
-use Rattle.kinds.specs.Calls.{makeOf, capacityOf, lenOf, isEmptyOf, reserveOf, containsOf, copyOf, droppedOf}
+use Rattle.kinds.specs.Calls.{makeOf, capacityOf, lenOf, isEmptyOf, reserveOf, containsOf, droppedOf}
 use Rattle.kinds.specs.Columns.{nothing}
 use Rattle.kinds.specs.Told.{Settled, SettledWith}
 use Rattle.kinds.proofs.Settled.{settled, settled-with}
-use Rattle.lent.specs.Moved.{movedOn}
 use Rattle.spans.specs.Memory.{Strings}
-use Rattle.spans.specs.Kinds.{sets, joinOf, spanOf, setStepOf}
-use Rattle.byte_set.specs.declared.Walk.{Walk}
-use Rattle.byte_set.specs.Numbers.{stepNumbers}
-use Rattle.byte_set.proofs.Equal.{stepNumbers-injective}
+use Rattle.spans.specs.Kinds.{sets, joinOf, spanOf}
 
 module _ (m : Strings nothing) where
   -- `make`.
@@ -55,19 +50,3 @@ module _ (m : Strings nothing) where
   -- `remove`.
   pub remove-settled : (k : List ℕ) → SettledWith droppedNumbers (droppedOf sets m k)
   remove-settled k = settled-with droppedNumbers-injective
-
-  -- `copy`.
-  pub copy-settled : (from : Strings nothing) → SettledWith outcomeNumbers (copyOf sets m from)
-  copy-settled from = settled-with outcomeNumbers-injective
-
-  -- `Walk::step`.
-  pub step-settled : (at budget : ℕ) → Settled stepNumbers (setStepOf m at budget)
-  step-settled at budget = settled stepNumbers-injective
-
-  -- `Walk::step_on`.
-  pub step-on-settled : (at budget : ℕ) → SettledWith stepNumbers (movedOn (setStepOf m at budget))
-  step-on-settled at budget = settled-with stepNumbers-injective
-
--- `Walk::start`.
-pub start-settled : (r s : Walk) → r .at ≡ 0 → s .at ≡ 0 → r ≡ s
-start-settled r s p q = let e : r .at ≡ s .at = p ∙ sym q in λ i. record { at = e i }

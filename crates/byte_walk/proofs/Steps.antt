@@ -26,15 +26,6 @@ use Rattle.byte_walk.specs.declared.Paced.the-variants.{Pair, Nothing, D
 use Rattle.byte_walk.specs.declared.Step.{Step}
 use Rattle.byte_walk.specs.Numbers.{pacedNumbers, refusedNumbers, stepNumbers}
 
--- how many slots a step may look at
-pub reach-budget : (S at budget : ℕ) → budget ≤ S - at → budget ≡ reachOf S at budget
-unfolding reachOf
-reach-budget S at budget l = rw (le-leb budget (S - at) l)
-
-pub reach-rest : (S at budget : ℕ) → S - at < budget → S - at ≡ reachOf S at budget
-unfolding reachOf
-reach-rest S at budget l = rw (lt-leb budget (S - at) l)
-
 module _ (m : Strings values) (at : ℕ) where
   -- the slots of a step
   module _ (g : ℕ) {r : Next} (p : r ≡ nexting (m .spans) at (at + g)) where

@@ -2,7 +2,6 @@
 ghost use mathlib.Core.Path.{_≡_};
 ghost use Prim.Native.Nat.{_+_, _≤_};
 ghost use lib.ListN.{length};
-ghost use Rattle.model.specs.Walk.{reachOf};
 ghost use Rattle.kinds.specs.Told.{told};
 ghost use Rattle.lent.specs.Moved.{movedOn};
 ghost use Rattle.spans.specs.Kinds.{mapMemory, paceOf, stepOf};
@@ -10,6 +9,7 @@ ghost use Rattle.byte_walk.specs.Numbers.{refusedNumbers, stepNumbers};
 use answers::Refusal;
 use byte_map::map_fits;
 use kinds::Next;
+use kinds::reach;
 use spans::len_at;
 use spans::next_live;
 use spans::offset_at;
@@ -43,17 +43,6 @@ fn refused(at: usize, why: Refusal) -> Step
         out: Paced::Refused(why),
         examined: 0,
     }
-}
-
-// How many slots a step may look at: its budget, and no more than there are from here.
-fn reach(size: usize, at: usize, budget: u64) -> usize
-    requires { ⌜ at ≤ size ⌝ }
-    ensures { λ r. ⌜ r ≡ reachOf size at budget ⌝ }
-{
-    if budget <= (size - at) as u64 {
-        return budget as usize;
-    }
-    size - at
 }
 
 // The slots of a step: up to the first live one, within so many.

@@ -3,7 +3,6 @@ ghost use mathlib.Core.Path.{_≡_};
 ghost use Prim.Native.Nat.{_+_, _≤_};
 ghost use lib.ListN.{length};
 ghost use Rattle.model.specs.Calls.{no};
-ghost use Rattle.model.specs.Walk.{reachOf};
 ghost use Rattle.answers.specs.Refusals.{numberOf};
 ghost use Rattle.answers.specs.Numbers.{outcomeNumbers, countedNumbers, emptinessNumbers, reservedNumbers, memberNumbers, containedNumbers, addedNumbers, droppedNumbers};
 ghost use Rattle.int_set.specs.Memory.{memory};
@@ -28,6 +27,7 @@ use arrays::copy_words;
 use kinds::Next;
 use kinds::Probed;
 use kinds::Scanned;
+use kinds::reach;
 
 // Makes an empty set of the lent arrays.
 pub fn make(marks: &mut [u8], keys: &mut [u64]) -> Outcome
@@ -209,17 +209,6 @@ fn refused(at: usize, why: Refusal) -> Step
         out: Paced::Refused(why),
         examined: 0,
     }
-}
-
-// How many slots a step may look at: its budget, and no more than there are from here.
-fn reach(size: usize, at: usize, budget: u64) -> usize
-    requires { ⌜ at ≤ size ⌝ }
-    ensures { λ r. ⌜ r ≡ reachOf size at budget ⌝ }
-{
-    if budget <= (size - at) as u64 {
-        return budget as usize;
-    }
-    size - at
 }
 
 // The slots of a step: up to the first live one, within so many.

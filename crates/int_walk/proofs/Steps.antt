@@ -26,15 +26,6 @@ use Rattle.int_walk.specs.Calls.{paceOf, stepOf}
 use Rattle.int_walk.specs.Numbers.{pacedNumbers, stepNumbers}
 use Rattle.int_map.proofs.Laws.{fit, unfit}
 
--- how many slots a step may look at
-pub reach-budget : (S at budget : ℕ) → budget ≤ S - at → budget ≡ reachOf S at budget
-unfolding reachOf
-reach-budget S at budget l = rw (le-leb budget (S - at) l)
-
-pub reach-rest : (S at budget : ℕ) → S - at < budget → S - at ≡ reachOf S at budget
-unfolding reachOf
-reach-rest S at budget l = rw (lt-leb budget (S - at) l)
-
 module _ (marks keys vs : List ℕ) (at : ℕ) where
   -- the slots of a step
   module _ (g : ℕ) {r : Next} (p : r ≡ nexting marks at (at + g)) where

@@ -3,7 +3,6 @@ ghost use mathlib.Core.Path.{_≡_};
 ghost use Prim.Native.Nat.{_+_, _≤_};
 ghost use lib.ListN.{length};
 ghost use Rattle.model.specs.Calls.{no};
-ghost use Rattle.model.specs.Walk.{reachOf};
 ghost use Rattle.answers.specs.Refusals.{numberOf};
 ghost use Rattle.answers.specs.Said.{pairHanded, stepSaid};
 ghost use Rattle.kinds.specs.Told.{told};
@@ -13,6 +12,7 @@ ghost use Rattle.int_walk.specs.Calls.{paceOf, stepOf};
 ghost use Rattle.int_walk.specs.Numbers.{stepNumbers};
 use answers::Refusal;
 use kinds::Next;
+use kinds::reach;
 
 // A walk of a map is the slot where it stands.
 pub struct Walk {
@@ -43,17 +43,6 @@ fn refused(at: usize, why: Refusal) -> Step
         out: Paced::Refused(why),
         examined: 0,
     }
-}
-
-// How many slots a step may look at: its budget, and no more than there are from here.
-fn reach(size: usize, at: usize, budget: u64) -> usize
-    requires { ⌜ at ≤ size ⌝ }
-    ensures { λ r. ⌜ r ≡ reachOf size at budget ⌝ }
-{
-    if budget <= (size - at) as u64 {
-        return budget as usize;
-    }
-    size - at
 }
 
 // The slots of a step: up to the first live one, within so many.

@@ -1,6 +1,7 @@
-// What all kinds of tables share: the answers of probing, scan and look ahead, and the small steps of their loops.
+// What all kinds of tables share: the answers of probing, scan and look ahead, and the small steps of their loops and walks.
 ghost use mathlib.Core.Path.{_≡_};
-ghost use Prim.Native.Nat.{_<_};
+ghost use Prim.Native.Nat.{_≤_, _<_};
+ghost use Rattle.model.specs.Walk.{reachOf};
 ghost use Rattle.kinds.specs.Marks.{counted};
 ghost use Rattle.kinds.specs.Probing.{firstFree, nextSlot, ended};
 use answers::Refusal;
@@ -74,4 +75,15 @@ pub fn count_mark(mark: u8) -> usize
         return 1;
     }
     0
+}
+
+// How many slots a step of a walk may look at: its budget, and no more than there are from here.
+pub fn reach(size: usize, at: usize, budget: u64) -> usize
+    requires { ⌜ at ≤ size ⌝ }
+    ensures { λ r. ⌜ r ≡ reachOf size at budget ⌝ }
+{
+    if budget <= (size - at) as u64 {
+        return budget as usize;
+    }
+    size - at
 }

@@ -1,4 +1,4 @@
-// The byte set for C: each call as byte_set has it, its answer as numbers.
+// The byte set for C: each call as byte_set, byte_set_copy and byte_set_walk have it, its answer as numbers.
 ghost use mathlib.Core.Path.{_≡_};
 ghost use Rattle.kinds.specs.Told.{told};
 ghost use Rattle.lent.specs.Moved.{movedOn};
@@ -13,7 +13,7 @@ use answers::joined_numbers;
 use answers::outcome_numbers;
 use answers::reserved_numbers;
 use answers::spanned_numbers;
-use byte_set::Walk;
+use byte_set_walk::Walk;
 use numbers::byte_sets::step_numbers;
 
 // Makes an empty set of the lent arrays.
@@ -165,7 +165,7 @@ pub extern "C" fn moss_byte_set_copy(
 ) -> Numbers
     ensures { λ r. ⌜ told r (setMemory (now («to_marks» .exit)) (now («to_offsets» .exit)) (now («to_lengths» .exit)) (now («to_arena» .exit))) ≡ copyOf sets (setMemory (now («to_marks» .entry)) (now («to_offsets» .entry)) (now («to_lengths» .entry)) (now («to_arena» .entry))) (setMemory (now (marks .entry)) (now (offsets .entry)) (now (lengths .entry)) (now (arena .entry))) ⌝ }
 {
-    outcome_numbers(byte_set::copy(
+    outcome_numbers(byte_set_copy::copy(
         to_marks,
         to_offsets,
         to_lengths,

@@ -1,12 +1,12 @@
 // The byte set's walk: the numbers of a step.
 ghost use mathlib.Core.Path.{_≡_};
-ghost use Rattle.byte_set.specs.Numbers.{stepNumbers};
+ghost use Rattle.byte_set_walk.specs.Numbers.{stepNumbers};
 use crate::span_walk_numbers;
 use crate::walk_numbers;
 use answers::Numbers;
 use answers::number;
-use byte_set::Paced;
-use byte_set::Step;
+use byte_set_walk::Paced;
+use byte_set_walk::Step;
 
 // The numbers of a step of a walk.
 pub fn step_numbers(s: Step) -> Numbers

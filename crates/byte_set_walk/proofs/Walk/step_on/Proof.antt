@@ -1,4 +1,4 @@
--- `byte_set::Walk::step_on` meets its contract: a walk of its MIR, by hand. The borrow is opened, the walk is copied out, `step` is called on the copy, and the borrow is closed at the walk of its answer (`Rattle.lent.proofs.Walks`).
+-- `byte_set_walk::Walk::step_on` meets its contract: a walk of its MIR, by hand. The borrow is opened, the walk is copied out, `step` is called on the copy, and the borrow is closed at the walk of its answer (`Rattle.lent.proofs.Walks`).
 -- All that the proof knows of `step` is that it meets its contract. The walk of the MIR names each local by its place, so each kind, with its own number of slices, has such a file.
 -- Assumes nothing.
 use mathlib.Core.Path.{_≡_, refl}
@@ -40,22 +40,22 @@ use denote.Triple.Walked.{says, Stays, stay-ref, hasOf, walkOf, goes-ref, Walks,
 use Rattle.lent.proofs.Moved.{moved}
 use Rattle.lent.proofs.Walks.{beside, dropped, all-dropped, none-kept, opened, answered, moved-on}
 use Rattle.spans.specs.Kinds.{setMemory, setStepOf}
-use Rattle.byte_set.specs.Numbers.{stepNumbers}
-use Rattle.byte_set.specs.declared.Walk.{Walk}
-use Rattle.byte_set.specs.declared.Step.{Step}
-use Rattle.byte_set.proofs.Equal.{walk-of}
-use Rattle.byte_set.proofs.Walk as T
-use Rattle.byte_set.proofs.Walk.Laws as T′
-use Rattle.byte_set.proofs.Step as S
-use Rattle.byte_set.proofs.Step.Laws as S′
-use Rattle.byte_set.proofs.Walk.step as step
-use Rattle.byte_set.proofs.Walk.step.Symbol as step-def
-use Rattle.byte_set.proofs.Walk.step.Symbol.{name as #step}
-use Rattle.byte_set.proofs.Walk.step.Met as step-thm
-use Rattle.byte_set.proofs.Walk.step_on.Key.{name as #step-on}
-use Rattle.byte_set.proofs.Walk.step_on as step-on
-use Rattle.byte_set.proofs.Walk.step_on.Statement as stated
-use Rattle.byte_set.proofs.Walk.step_on.Code as code
+use Rattle.byte_set_walk.specs.Numbers.{stepNumbers}
+use Rattle.byte_set_walk.specs.declared.Walk.{Walk}
+use Rattle.byte_set_walk.specs.declared.Step.{Step}
+use Rattle.byte_set_walk.proofs.Equal.{walk-of}
+use Rattle.byte_set_walk.proofs.Walk as T
+use Rattle.byte_set_walk.proofs.Walk.Laws as T′
+use Rattle.byte_set_walk.proofs.Step as S
+use Rattle.byte_set_walk.proofs.Step.Laws as S′
+use Rattle.byte_set_walk.proofs.Walk.step as step
+use Rattle.byte_set_walk.proofs.Walk.step.Symbol as step-def
+use Rattle.byte_set_walk.proofs.Walk.step.Symbol.{name as #step}
+use Rattle.byte_set_walk.proofs.Walk.step.Met as step-thm
+use Rattle.byte_set_walk.proofs.Walk.step_on.Key.{name as #step-on}
+use Rattle.byte_set_walk.proofs.Walk.step_on as step-on
+use Rattle.byte_set_walk.proofs.Walk.step_on.Statement as stated
+use Rattle.byte_set_walk.proofs.Walk.step_on.Code as code
 
 -- at exit the walk is still owned, and nothing is kept of the rest
 abbrev stayed : Stays (step-on.ended .signature .params) (step-on.ended .kept)
@@ -162,4 +162,4 @@ step-on-spec 𝓤 H 𝓜 𝓖 𝓡 =
     entered 𝓤 H (tripleOf 𝓤 H (𝓖 .A) step-on.signature (step-on.spec 𝓤 H (𝓖 .A) (𝓜 .mem) (𝓡 .run)))
     (tables 𝓤 H 𝓜 𝓡 code.env .C) (tables 𝓤 H 𝓜 𝓡 code.env .Λ) #step-on code.function (code.unfolded 𝓤 H 𝓜 𝓡)
     (meets 𝓤 H (𝓖 .A) (givenOf 𝓤 H 𝓜 𝓖) (𝓜 .mem) (𝓡 .run) (tablesOf 𝓤 H 𝓜 (tables 𝓤 H 𝓜 𝓡 code.env))
-    (cited 𝓤 H (Stepped 𝓤 H (𝓖 .A) (𝓜 .mem) (𝓡 .run)) 𝓜 𝓡 code.env #step step-def.routine code.calls-byte-set·Walk·step (step-thm.met 𝓤 H 𝓜 𝓖 𝓡)))
+    (cited 𝓤 H (Stepped 𝓤 H (𝓖 .A) (𝓜 .mem) (𝓡 .run)) 𝓜 𝓡 code.env #step step-def.routine code.calls-byte-set-walk·Walk·step (step-thm.met 𝓤 H 𝓜 𝓖 𝓡)))

@@ -3,10 +3,10 @@ use Prim.Native.Nat.{ℕ}
 use mathlib.Core.Path.{_≡_, refl, sym, _∙_, ap, ap₂}
 use native.Mathlib.Omega.{arith}
 use Rattle.answers.proofs.Told.{numberOf-injective}
-use Rattle.byte_set.specs.declared.Paced.{Paced}
-use Rattle.byte_set.specs.declared.Paced.the-variants.{Member, Nothing, Done, Refused}
-use Rattle.byte_set.specs.declared.Step.{Step}
-use Rattle.byte_set.specs.Numbers.{pacedNumbers, stepNumbers}
+use Rattle.byte_set_walk.specs.declared.Paced.{Paced}
+use Rattle.byte_set_walk.specs.declared.Paced.the-variants.{Member, Nothing, Done, Refused}
+use Rattle.byte_set_walk.specs.declared.Step.{Step}
+use Rattle.byte_set_walk.specs.Numbers.{pacedNumbers, stepNumbers}
 
 module _ (w e : ℕ) where
   walk-told : (x : Paced) → pacedNumbers w e x .walk ≡ w

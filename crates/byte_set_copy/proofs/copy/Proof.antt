@@ -1,8 +1,8 @@
--- `byte_set::copy` meets its contract: refusal 1, or every slot and byte is the other table's.
+-- `byte_set_copy::copy` meets its contract: refusal 1, or every slot and byte is the other table's.
 use borrow.Author.Needs.{needs}
-use Rattle.byte_set.proofs.Laws.{copy-done, copy-bytes-unequal, copy-slots-unequal, copy-from-unfit, copy-unfit}
-use Rattle.byte_set.proofs.copy.Statement.{statement}
-use Rattle.byte_set.proofs.copy.Tie as tie
+use Rattle.byte_set_copy.proofs.Laws.{copy-done, copy-bytes-unequal, copy-slots-unequal, copy-from-unfit, copy-unfit}
+use Rattle.byte_set_copy.proofs.copy.Statement.{statement}
+use Rattle.byte_set_copy.proofs.copy.Tie as tie
 
 fits-requires : tie.Need-fits-requires
 fits-requires c κs = search needs

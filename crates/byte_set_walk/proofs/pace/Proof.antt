@@ -1,10 +1,10 @@
--- `byte_set::pace` meets its contract: the span of the first live slot, refusal 5, or nothing.
+-- `byte_set_walk::pace` meets its contract: the span of the first live slot, refusal 5, or nothing.
 use borrow.Author.Needs.{needs}
 use native.Mathlib.Omega.{arith}
 use Rattle.spans.proofs.Bridge.{next-inside}
-use Rattle.byte_set.proofs.Steps.{pace-live, pace-bad, pace-none}
-use Rattle.byte_set.proofs.pace.Statement.{statement}
-use Rattle.byte_set.proofs.pace.Tie as tie
+use Rattle.byte_set_walk.proofs.Steps.{pace-live, pace-bad, pace-none}
+use Rattle.byte_set_walk.proofs.pace.Statement.{statement}
+use Rattle.byte_set_walk.proofs.pace.Tie as tie
 
 add-next-live : tie.Need-add-next-live
 add-next-live c = search needs

@@ -19,19 +19,10 @@ use Rattle.spans.specs.Memory.{Spans, fitting}
 use Rattle.spans.specs.Kinds.{setPaceOf, setStepOf}
 use Rattle.spans.specs.Scanning.{nexting}
 use Rattle.spans.proofs.Bridge.{paced-by}
-use Rattle.byte_set.specs.declared.Paced.the-variants.{Member, Nothing, Done}
-use Rattle.byte_set.specs.declared.Step.{Step}
-use Rattle.byte_set.specs.Numbers.{pacedNumbers, stepNumbers, refusedNumbers}
+use Rattle.byte_set_walk.specs.declared.Paced.the-variants.{Member, Nothing, Done}
+use Rattle.byte_set_walk.specs.declared.Step.{Step}
+use Rattle.byte_set_walk.specs.Numbers.{pacedNumbers, stepNumbers, refusedNumbers}
 use Rattle.byte_set.proofs.Laws.{setOf, fit, unfit}
-
--- how many slots a step may look at
-pub reach-budget : (S at budget : ℕ) → budget ≤ S - at → budget ≡ reachOf S at budget
-unfolding reachOf
-reach-budget S at budget l = rw (le-leb budget (S - at) l)
-
-pub reach-rest : (S at budget : ℕ) → S - at < budget → S - at ≡ reachOf S at budget
-unfolding reachOf
-reach-rest S at budget l = rw (lt-leb budget (S - at) l)
 
 -- within the reach all slots are there
 pub pace-fits : (S at budget : ℕ) {g : ℕ} → at ≤ S → g ≡ reachOf S at budget → at + g ≤ S

@@ -3,9 +3,9 @@ use Prim.Native.Nat.{ℕ}
 use Rattle.answers.specs.declared.Refusal.{Refusal}
 use Rattle.answers.specs.Refusals.{numberOf}
 use Rattle.answers.specs.declared.Numbers.{Numbers}
-use Rattle.byte_set.specs.declared.Paced.{Paced}
-use Rattle.byte_set.specs.declared.Paced.the-variants.{Member, Nothing, Done, Refused}
-use Rattle.byte_set.specs.declared.Step.{Step}
+use Rattle.byte_set_walk.specs.declared.Paced.{Paced}
+use Rattle.byte_set_walk.specs.declared.Paced.the-variants.{Member, Nothing, Done, Refused}
+use Rattle.byte_set_walk.specs.declared.Step.{Step}
 
 -- By what the step hands out, with the walk and the examined number: case 14, a key's offset and length, 15, nothing, 16, done, or a refusal.
 unfoldable pub pacedNumbers : ℕ → ℕ → Paced → Numbers

@@ -1,2 +1,0 @@
--- The definitions of byte sets.
-pub mod Numbers

@@ -1,0 +1,3 @@
+-- The laws of copies of byte sets.
+pub mod Laws
+pub mod Settled

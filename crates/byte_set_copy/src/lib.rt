@@ -1,0 +1,40 @@
+// The copy of a byte set. Its contract is one equation with a definition of the theory at this store.
+ghost use mathlib.Core.Path.{_≡_};
+ghost use Rattle.answers.specs.Numbers.{outcomeNumbers};
+ghost use Rattle.kinds.specs.Told.{told};
+ghost use Rattle.kinds.specs.Calls.{copyOf};
+ghost use Rattle.spans.specs.Kinds.{sets, setMemory};
+use answers::Outcome;
+use answers::Refusal;
+use arrays::copy_bytes;
+use arrays::copy_shorts;
+use spans::fits;
+
+// Makes a set equal to another of equal sizes, in every slot and byte.
+pub fn copy(
+    to_marks: &mut [u8],
+    to_offsets: &mut [u16],
+    to_lengths: &mut [u8],
+    to_arena: &mut [u8],
+    marks: &[u8],
+    offsets: &[u16],
+    lengths: &[u8],
+    arena: &[u8],
+) -> Outcome
+    ensures { λ r. ⌜ told (outcomeNumbers r) (setMemory (now («to_marks» .exit)) (now («to_offsets» .exit)) (now («to_lengths» .exit)) (now («to_arena» .exit))) ≡ copyOf sets (setMemory (now («to_marks» .entry)) (now («to_offsets» .entry)) (now («to_lengths» .entry)) (now («to_arena» .entry))) (setMemory (now (marks .entry)) (now (offsets .entry)) (now (lengths .entry)) (now (arena .entry))) ⌝ }
+{
+    if fits(to_marks, to_offsets, to_lengths, to_arena) {
+        if fits(marks, offsets, lengths, arena) {
+            if to_marks.len() == marks.len() {
+                if to_arena.len() == arena.len() {
+                    copy_bytes(to_marks, marks);
+                    copy_shorts(to_offsets, offsets);
+                    copy_bytes(to_lengths, lengths);
+                    copy_bytes(to_arena, arena);
+                    return Outcome::Done;
+                }
+            }
+        }
+    }
+    Outcome::Refused(Refusal::Sizes)
+}

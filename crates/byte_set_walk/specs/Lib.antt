@@ -1,0 +1,2 @@
+-- The definitions of walks of byte sets.
+pub mod Numbers

@@ -1,0 +1,135 @@
+// Walks of a byte set: a walk is a slot number, and each step hands out at most one key within its budget, as offset and length.
+ghost use mathlib.Core.Path.{_≡_};
+ghost use Prim.Native.Nat.{_+_, _≤_};
+ghost use lib.ListN.{length};
+ghost use Rattle.kinds.specs.Told.{told};
+ghost use Rattle.lent.specs.Moved.{movedOn};
+ghost use Rattle.spans.specs.Kinds.{setMemory, setPaceOf, setStepOf};
+ghost use Rattle.byte_set_walk.specs.Numbers.{refusedNumbers, stepNumbers};
+use answers::Refusal;
+use kinds::Next;
+use kinds::reach;
+use spans::fits;
+use spans::len_at;
+use spans::next_live;
+use spans::offset_at;
+
+// A walk of a set is the slot where it stands.
+pub struct Walk {
+    pub at: usize,
+}
+
+// What a step of a walk hands out: a key's offset and length, nothing, or that the walk is done; or a refusal.
+pub enum Paced {
+    Member(usize, usize),
+    Nothing,
+    Done,
+    Refused(Refusal),
+}
+
+// The answer of a step: the walk moved on, what it hands out, and the examined number.
+pub struct Step {
+    pub walk: Walk,
+    pub out: Paced,
+    pub examined: usize,
+}
+
+// A refused step: the walk as it came, and 0 examined.
+fn refused(at: usize, why: Refusal) -> Step
+    ensures { λ r. ⌜ stepNumbers r ≡ refusedNumbers at why ⌝ }
+{
+    Step {
+        walk: Walk { at },
+        out: Paced::Refused(why),
+        examined: 0,
+    }
+}
+
+// The slots of a step: up to the first live one, within so many.
+fn pace(
+    marks: &[u8],
+    offsets: &[u16],
+    lengths: &[u8],
+    arena: &[u8],
+    at: usize,
+    slots: usize,
+) -> Step
+    requires { ⌜ (at + slots ≤ length (now marks)) × (length (now offsets) ≡ length (now marks)) × (length (now lengths) ≡ length (now marks)) ⌝ }
+    ensures { λ r. ⌜ stepNumbers r ≡ setPaceOf (setMemory (now (marks .entry)) (now (offsets .entry)) (now (lengths .entry)) (now (arena .entry))) at slots ⌝ }
+{
+    let next = next_live(marks, offsets, lengths, arena, at, at + slots);
+    match next {
+        Next::Live(slot) => {
+            let offset = offset_at(offsets, slot) as usize;
+            let length = len_at(lengths, slot) as usize;
+            Step {
+                walk: Walk { at: slot + 1 },
+                out: Paced::Member(offset, length),
+                examined: slot + 1 - at,
+            }
+        }
+        Next::Bad => refused(at, Refusal::Damaged),
+        Next::Nothing => Step {
+            walk: Walk { at: at + slots },
+            out: Paced::Nothing,
+            examined: slots,
+        },
+    }
+}
+
+impl Walk {
+    // A walk starts at slot 0.
+    pub fn start() -> Walk
+        ensures { λ r. ⌜ r .at ≡ 0 ⌝ }
+    {
+        Walk { at: 0 }
+    }
+
+    // One step with a budget of slots: the key of the first live slot within it, nothing, or done.
+    pub fn step(
+        self,
+        marks: &[u8],
+        offsets: &[u16],
+        lengths: &[u8],
+        arena: &[u8],
+        budget: u64,
+    ) -> Step
+        ensures { λ r. ⌜ stepNumbers r ≡ setStepOf (setMemory (now (marks .entry)) (now (offsets .entry)) (now (lengths .entry)) (now (arena .entry))) (self .at) budget ⌝ }
+    {
+        let at = self.at;
+        if fits(marks, offsets, lengths, arena) {
+            if budget == 0 {
+                return refused(at, Refusal::NoBudget);
+            }
+            if marks.len() < at {
+                return refused(at, Refusal::WalkBeyond);
+            }
+            if at == marks.len() {
+                return Step {
+                    walk: Walk { at },
+                    out: Paced::Done,
+                    examined: 0,
+                };
+            }
+            let slots = reach(marks.len(), at, budget);
+            return pace(marks, offsets, lengths, arena, at, slots);
+        }
+        refused(at, Refusal::Sizes)
+    }
+
+    // One step of a lent walk, which moves on in its place.
+    pub fn step_on(
+        &mut self,
+        marks: &[u8],
+        offsets: &[u16],
+        lengths: &[u8],
+        arena: &[u8],
+        budget: u64,
+    ) -> Step
+        ensures { λ r. ⌜ told (stepNumbers r) (now (self .exit) .at) ≡ movedOn (setStepOf (setMemory (now (marks .entry)) (now (offsets .entry)) (now (lengths .entry)) (now (arena .entry))) (now (self .entry) .at) budget) ⌝ }
+    {
+        let r = self.step(marks, offsets, lengths, arena, budget);
+        *self = r.walk;
+        r
+    }
+}
