@@ -7,6 +7,7 @@ pub mod Places
 pub mod Tiled
 pub mod Writes
 pub mod Bridge
+pub mod Eights
 pub mod Equal
 pub mod Marks
 pub mod Plans

@@ -3,7 +3,8 @@ ghost use mathlib.Core.Path.{_≡_};
 ghost use mathlib.Core.Bool.{true};
 ghost use Prim.Native.Nat.{_+_, _-_, _≤_, _<_};
 ghost use lib.Dec.{eqb, leb};
-ghost use lib.ListN.{length, getD, set};
+ghost use lib.ListN.{length, getD, set, take, drop};
+ghost use Rattle.lists.specs.Bytes.{le};
 ghost use Rattle.spans.specs.Keys.{sameBytes};
 ghost use Rattle.spans.specs.Memory.{spansOf, fitting, askedOf, keptOf};
 ghost use Rattle.spans.specs.Marks.{markAt};
@@ -125,20 +126,60 @@ pub fn may_keep(key: &[u8]) -> bool
     key.len() <= KEY_LIMIT
 }
 
-// Whether two byte strings are equal.
+// The two bytes from i on as one number, low byte first.
+fn two_at(bytes: &[u8], i: usize) -> u16
+    requires { ⌜ i + 2 ≤ length (now bytes) ⌝ }
+    ensures { λ r. ⌜ le 2 r ≡ take 2 (drop i (now (bytes .entry))) ⌝ }
+{
+    (bytes[i] as u16) + (bytes[i + 1] as u16) * 256
+}
+
+// The four bytes from i on as one number, low byte first.
+fn four_at(bytes: &[u8], i: usize) -> u32
+    requires { ⌜ i + 4 ≤ length (now bytes) ⌝ }
+    ensures { λ r. ⌜ le 4 r ≡ take 4 (drop i (now (bytes .entry))) ⌝ }
+{
+    (two_at(bytes, i) as u32) + (two_at(bytes, i + 2) as u32) * 65536
+}
+
+// The eight bytes from i on as one number, low byte first.
+fn eight_at(bytes: &[u8], i: usize) -> u64
+    requires { ⌜ i + 8 ≤ length (now bytes) ⌝ }
+    ensures { λ r. ⌜ le 8 r ≡ take 8 (drop i (now (bytes .entry))) ⌝ }
+{
+    (four_at(bytes, i) as u64) + (four_at(bytes, i + 4) as u64) * 4294967296
+}
+
+// Whether two byte strings of one length are equal, byte by byte.
+fn same_tail(a: &[u8], b: &[u8]) -> bool
+    requires { ⌜ length (now a) ≡ length (now b) ⌝ }
+    ensures { λ r. ⌜ r ≡ sameBytes (now (a .entry)) (now (b .entry)) ⌝ }
+{
+    let mut i = 0;
+    while i < a.len() {
+        if a[i] == b[i] {
+            i += 1;
+        } else {
+            return false;
+        }
+    }
+    true
+}
+
+// Whether two byte strings are equal: eight bytes at a time, then the tail.
 pub fn same_bytes(a: &[u8], b: &[u8]) -> bool
     ensures { λ r. ⌜ r ≡ sameBytes (now (a .entry)) (now (b .entry)) ⌝ }
 {
     if a.len() == b.len() {
         let mut i = 0;
-        while i < a.len() {
-            if a[i] == b[i] {
-                i += 1;
+        while 8 <= a.len() - i {
+            if eight_at(a, i) == eight_at(b, i) {
+                i += 8;
             } else {
                 return false;
             }
         }
-        return true;
+        return same_tail(&a[i..], &b[i..]);
     }
     false
 }
