@@ -10,22 +10,20 @@ use lib.ListN.{length}
 use Rattle.model.specs.Calls.{no, pass, need, seenBy, spotBy, get, entry, remove}
 use Rattle.model.specs.Store.{path}
 use Rattle.model.proofs.Cases.{by-bool}
-use Rattle.digest.proofs.Bounds.{home-below}
 use Rattle.answers.specs.declared.Refusal.the-variants.{Sizes}
 use Rattle.kinds.specs.declared.Probed.{Probed}
 use Rattle.kinds.specs.declared.Probed.the-variants as probed
 use Rattle.kinds.specs.Columns.{values}
-use Rattle.kinds.proofs.Bridge.{seenOf, hit-below}
+use Rattle.kinds.proofs.Bridge.{seenOf}
 use Rattle.spans.specs.declared.Placed.{Placed}
 use Rattle.spans.specs.declared.Placed.the-variants as placed
 use Rattle.spans.specs.declared.Located.{Located}
 use Rattle.spans.specs.declared.Located.the-variants as located
-use Rattle.spans.specs.Memory.{Strings, fitting, harmful, usedOf, askedOf, keptOf}
+use Rattle.spans.specs.Memory.{Strings, fitting, harmful, usedOf, keptOf}
 use Rattle.spans.specs.Kinds.{maps}
 use Rattle.spans.specs.Probing.{pathOf, probing}
 use Rattle.spans.specs.Planning.{placedBy, roomFor, placing, locating}
-use Rattle.spans.proofs.Bridge.{spotOf, lostOf, path-is, short-refused, get-probing, remove-locating, entry-placing}
-use Rattle.spans.proofs.Sizes.{fitting-says}
+use Rattle.spans.proofs.Bridge.{spotOf, lostOf, short-refused, path-inside, probing-inside, get-probing, remove-locating, entry-placing}
 use Rattle.arena.specs.Needs.{Fillable, Freeable}
 use Rattle.arena.proofs.Plans.{place-fillable, locate-freeable}
 use Rattle.byte_map.specs.Seeking.{sizedOf, whereLong, seekingMap, placingMap, locatingMap}
@@ -91,22 +89,11 @@ module _ (m : Strings values) where
     get-seeking = by-long (probing (m .spans) k) (probed.Refused Sizes) (seenOf (values .read (m .words))) (get maps m k) (get-probing values m k) get-short
 
     -- a slot that the probing answers is one of the table's
-    path-inside : fitting (m .spans) ≡ true → {i e : ℕ} → pathOf (m .spans) k ≡ probed.Hit i e → i < length (m .spans .marks)
-    path-inside f q = hit-below maps m k (home-below 0 (length (m .spans .marks)) k (fitting-says (m .spans) f .some)) (path-is values m k ∙ q)
-
-    probing-inside : {i e : ℕ} → probing (m .spans) k ≡ probed.Hit i e → i < length (m .spans .marks)
-    unfolding probing
-    probing-inside q = by-bool (fitting (m .spans))
-        (λ f. by-bool (eqb (askedOf k) 0)
-        (λ a. path-inside f (rw (f, a) at q))
-        (λ a. clash (cc (rw (f, a) at q))))
-        (λ f. clash (cc (rw f at q)))
-
     pub seek-inside : {r : Probed} {i e : ℕ} → r ≡ seekingMap m k → r ≡ probed.Hit i e → i < length (m .words)
     unfolding seekingMap
     seek-inside p q =
         let (x, l) = long-only (probing (m .spans) k) (probed.Refused Sizes) p (λ z. clash (cc)) in
-        omega (arith, probing-inside (sym x ∙ q))
+        omega (arith, probing-inside values m k x q .0)
 
     -- the plans, from the test of the values
     pub place-long : {r : Placed} → length (m .spans .marks) ≡ length (m .words) → r ≡ placing (m .spans) k → r ≡ placingMap m k
@@ -149,7 +136,7 @@ module _ (m : Strings values) where
         (λ f. by-bool (eqb (keptOf k) 0)
         (λ a. by-bool (harmful (m .spans))
         (λ h. clash (cc (rw (f, a, h) at q)))
-        (λ h. path-inside f (placed-hit (usedOf (m .spans)) (roomFor (m .spans) k) (pathOf (m .spans) k) (rw (f, a, h) at q))))
+        (λ h. path-inside values m k f (placed-hit (usedOf (m .spans)) (roomFor (m .spans) k) (pathOf (m .spans) k) (rw (f, a, h) at q))))
         (λ a. clash (cc (rw (f, a) at q))))
         (λ f. clash (cc (rw f at q)))
 

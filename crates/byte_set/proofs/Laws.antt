@@ -1,8 +1,9 @@
 -- What the tests and callees of each call say of its definition. A path call has one law, by what the probing or the plan found.
-use Prim.Native.Nat.{ℕ}
+use Prim.Native.Nat.{ℕ, _<_}
 use mathlib.Core.Bool.{Bool, true, false}
 use mathlib.Core.List.{List}
 use mathlib.Core.Path.{_≡_, refl}
+use native.Mathlib.Omega.{arith}
 use lib.ListN.{length, getD}
 use Rattle.model.specs.Calls as model
 use Rattle.model.specs.Calls.{need, storedBy, after-insert, removedBy, after-remove, acted, capacity, after-make}
@@ -32,7 +33,7 @@ use Rattle.spans.specs.Kinds.{sets, joinOf, spanOf}
 use Rattle.spans.specs.Planning.{placing, locating}
 use Rattle.spans.specs.Probing.{probing}
 use Rattle.spans.specs.Scanning.{scanning}
-use Rattle.spans.proofs.Bridge.{spotOf, lostOf, get-probing, remove-locating, entry-placing, scan-live, scan-bad}
+use Rattle.spans.proofs.Bridge.{spotOf, lostOf, probing-inside, get-probing, remove-locating, entry-placing, scan-live, scan-bad}
 use Rattle.arena.proofs.Plans.{place-fillable}
 
 -- The lent lists of a set as one record.
@@ -91,6 +92,10 @@ module _ (s : Spans) where
       pub contains-says : containedSaid (seenOf {W = Unit {0}} (λ i. tt) x) ≡ containsOf sets (setOf s) k
       unfolding containsOf
       contains-says = rw (seen-by q)
+
+    -- a found key's slot has a length
+    pub get-inside : {i e : ℕ} → r ≡ probed.Hit i e → i < length (s .lengths)
+    get-inside q = let (l, z) = probing-inside nothing (setOf s) k p q in omega (arith, z .lengths)
 
     -- a found key's span is what stands in its slot
     pub get-found : {i e o l : ℕ} → r ≡ probed.Hit i e → o ≡ getD (s .offsets) i 0 → l ≡ getD (s .lengths) i 0 → spannedNumbers (spanned.Found o l i e) ≡ spanOf (setOf s) k

@@ -18,7 +18,7 @@ use byte_map::map_fits;
 use kinds::Probed;
 use kinds::count_mark;
 use spans::Surveyed;
-use spans::byte_at;
+use spans::len_at;
 use spans::mark_at;
 use spans::offset_at;
 use spans::probe;
@@ -74,7 +74,7 @@ fn lack(
 {
     if mark_at(right_marks, right_offsets, right_lengths, right_arena, i) == 1 {
         let start = offset_at(right_offsets, i) as usize;
-        let len = byte_at(right_lengths, i) as usize;
+        let len = len_at(right_lengths, i) as usize;
         let end = start + len;
         let seen = probe(marks, offsets, lengths, arena, &right_arena[start..end]);
         return needed_by(seen, len);
@@ -262,7 +262,7 @@ fn store_slot(
 {
     if mark_at(right_marks, right_offsets, right_lengths, right_arena, i) == 1 {
         let start = offset_at(right_offsets, i) as usize;
-        let len = byte_at(right_lengths, i) as usize;
+        let len = len_at(right_lengths, i) as usize;
         let end = start + len;
         return store(
             marks,

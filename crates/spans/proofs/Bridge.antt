@@ -13,6 +13,7 @@ use Rattle.model.specs.Calls.{Or, no, ok, need, pass, Seen, found, absent, Spot
 use Rattle.model.specs.Walk.{paceTo}
 use Rattle.model.proofs.Cases.{by-bool}
 use Rattle.digest.specs.Home.{homeOf, keyFits}
+use Rattle.digest.proofs.Bounds.{home-below}
 use Rattle.answers.specs.Refusals.{numberOf}
 use Rattle.kinds.specs.declared.Probed.{Probed}
 use Rattle.kinds.specs.declared.Probed.the-variants as probed
@@ -35,6 +36,7 @@ use Rattle.spans.specs.Planning.{placedBy, roomFor, placing, locatedBy, 
 use Rattle.spans.specs.Probing.{pathFrom, pathOf, probing}
 use Rattle.spans.specs.Scanning.{scanning, nexting}
 use Rattle.spans.proofs.Marks.{slot-cell, slots-cells}
+use Rattle.spans.proofs.Sizes.{Sized, fitting-says}
 
 -- What entry and insert answer by their plan; `read` gives the value at a slot.
 abbrev pub spotOf : {W : Type 0} → (ℕ → W) → Placed → Or (Spot W)
@@ -118,6 +120,19 @@ module _ {W : Type 0} (C : Column W) (m : Strings C) where
     pub spot-is : spotBy (strings C) m k (path (strings C) m k) ≡ spotIn (roomFor (m .spans) k) (C .read (m .words)) (pathOf (m .spans) k)
     unfolding roomFor
     spot-is = rw (← path-is, ← used-is) (spot-path (strings C) m (markAt (m .spans)) (keyAt (m .spans)) (C .read (m .words)) stand k)
+
+    -- a slot that the path found is one of the table's
+    pub path-inside : fitting (m .spans) ≡ true → {i e : ℕ} → pathOf (m .spans) k ≡ probed.Hit i e → i < length (m .spans .marks)
+    path-inside f q = kinds.hit-below (strings C) m k (home-below 0 (length (m .spans .marks)) k (fitting-says (m .spans) f .some)) (path-is ∙ q)
+
+    -- and so is one that the probing found, in lists that agree
+    pub probing-inside : {r : Probed} {i e : ℕ} → r ≡ probing (m .spans) k → r ≡ probed.Hit i e → (i < length (m .spans .marks)) × Sized (m .spans)
+    unfolding probing
+    probing-inside p q = by-bool (fitting (m .spans))
+        (λ f. by-bool (eqb (askedOf k) 0)
+        (λ a. (path-inside f (rw (f, a) at (sym p ∙ q)), fitting-says (m .spans) f))
+        (λ a. let y : _≡_ {A = ℕ} 0 1 = cc (rw (f, a) at (sym p ∙ q)) in absurd (omega arith)))
+        (λ f. let y : _≡_ {A = ℕ} 0 1 = cc (rw f at (sym p ∙ q)) in absurd (omega arith))
 
     -- the whole calls, where the column is as long as the marks
     module _ (long : C .long (m .words) (length (m .spans .marks)) ≡ true) where

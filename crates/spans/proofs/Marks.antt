@@ -21,14 +21,14 @@ shown-other b (suc (suc x)) k = refl
 
 module _ (s : Spans) (i : ℕ) {m : ℕ} (p : m ≡ getD (s .marks) i 0) where
   -- a live span past the arena
-  pub mark-past : {e : ℕ} → m ≡ 1 → e ≡ getD (s .offsets) i 0 + getD (s .lengths) i 0 → length (s .arena) < e → 3 ≡ markAt s i
+  pub mark-past : {n : ℕ} → m ≡ 1 → n ≡ getD (s .lengths) i 0 → length (s .arena) < getD (s .offsets) i 0 + n → 3 ≡ markAt s i
   unfolding markAt endAt shown
-  mark-past {e} q d l = let z : getD (s .marks) i 0 ≡ 1 = sym p ∙ q in rw (z, ← d, lt-leb e (length (s .arena)) l)
+  mark-past {n} q d l = let z : getD (s .marks) i 0 ≡ 1 = sym p ∙ q in rw (z, ← d, lt-leb (getD (s .offsets) i 0 + n) (length (s .arena)) l)
 
   -- a live span in it
-  pub mark-within : {e : ℕ} → m ≡ 1 → e ≡ getD (s .offsets) i 0 + getD (s .lengths) i 0 → e ≤ length (s .arena) → 1 ≡ markAt s i
+  pub mark-within : {n : ℕ} → m ≡ 1 → n ≡ getD (s .lengths) i 0 → getD (s .offsets) i 0 + n ≤ length (s .arena) → 1 ≡ markAt s i
   unfolding markAt endAt shown
-  mark-within {e} q d l = let z : getD (s .marks) i 0 ≡ 1 = sym p ∙ q in rw (z, ← d, le-leb e (length (s .arena)) l)
+  mark-within {n} q d l = let z : getD (s .marks) i 0 ≡ 1 = sym p ∙ q in rw (z, ← d, le-leb (getD (s .offsets) i 0 + n) (length (s .arena)) l)
 
   -- any other mark is shown as it is
   pub mark-other : (m ≡ 1 → ⊥) → m ≡ markAt s i

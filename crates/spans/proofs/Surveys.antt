@@ -52,7 +52,7 @@ unfolding beyond damaged hurts
 past-damaged s zero h = absurd (let z : _≡_ {A = ℕ} 0 1 = cc in omega arith)
 past-damaged s (suc n) h = by-bool (eqb (getD (s .marks) n 0) 1 && ltb (length (s .arena)) (endAt s n))
     (λ e. let (a, b) = both (eqb (getD (s .marks) n 0) 1) (ltb (length (s .arena)) (endAt s n)) e in
-    let m : 3 ≡ markAt s n = mark-past s n refl (eqb-true (getD (s .marks) n 0) 1 a) (end-is s n) (ltb-true (length (s .arena)) (endAt s n) b) in
+    let m : 3 ≡ markAt s n = mark-past s n refl (eqb-true (getD (s .marks) n 0) 1 a) refl (omega (arith, end-is s n, ltb-true (length (s .arena)) (endAt s n) b)) in
     rw (slot-cell s (λ j. tt {0}) n, cell-bad (markAt s n) (keyAt s n) (tt {0}) (omega arith)))
     (λ e. let z : beyond s (length (s .arena)) n ≡ true = rw e at h in by-bool (hurts (bare s n)) (λ q. rw q) (λ q. rw q (past-damaged s n z)))
 
@@ -76,10 +76,11 @@ module _ {s : Spans} {used top i : ℕ} (w : Surveying s used top i) where
     survey-bad h k = rw (damaged-bad (bare s) (length (s .marks)) i l (slot-cell s (λ j. tt {0}) i ∙ cell-bad (markAt s i) (keyAt s i) (tt {0}) (omega (arith, mark-other s i p k))))
 
     -- a live one
-    pub survey-live : {n d u t : ℕ} → m ≡ 1 → n ≡ getD (s .lengths) i 0 → n ≤ 255 → d ≡ getD (s .offsets) i 0 + getD (s .lengths) i 0 → u ≡ used + n → t ≡ higherEnd d top → Surveying s u t (i + 1)
+    pub survey-live : {n d u t : ℕ} → m ≡ 1 → (n ≡ getD (s .lengths) i 0) × (n ≤ 255) → d ≡ getD (s .offsets) i 0 + n → u ≡ used + n → t ≡ higherEnd d top → Surveying s u t (i + 1)
     unfolding total weigh cell damaged beyond hurts
-    survey-live {n} {d} {u} {t} h q few a b e =
+    survey-live {n} {d} {u} {t} h (q, few) r b e =
         let raw : getD (s .marks) i 0 ≡ 1 = omega arith in
+        let a : d ≡ getD (s .offsets) i 0 + getD (s .lengths) i 0 = omega arith in
         record {
           sized = w .sized;
           within = omega arith;
@@ -88,7 +89,7 @@ module _ {s : Spans} {used top i : ℕ} (w : Surveying s used top i) where
           sound = λ fit.
               let (y, z) = higher-both d top e fit in
               let (f, g) = w .sound z in
-              let one : markAt s i ≡ 1 = sym (mark-within s i p h a y) in
+              let one : markAt s i ≡ 1 = sym (mark-within s i p h q (omega arith)) in
               let long : length (keyAt s i) ≡ getD (s .lengths) i 0 = live-key s i one in
               (rw (add-one, slot-cell s (λ j. tt {0}) i, one) (omega arith), rw (add-one, slot-cell s (λ j. tt {0}) i, one) g);
         }

@@ -48,16 +48,6 @@ pub enum Located {
     Refused(Refusal),
 }
 
-// The byte at i, 0 beyond the array.
-pub fn byte_at(bytes: &[u8], i: usize) -> u8
-    ensures { λ r. ⌜ r ≡ getD (now (bytes .entry)) i 0 ⌝ }
-{
-    if i < bytes.len() {
-        return bytes[i];
-    }
-    0
-}
-
 // The offset of slot i, 0 beyond the array.
 pub fn offset_at(offsets: &[u16], i: usize) -> u16
     ensures { λ r. ⌜ r ≡ getD (now (offsets .entry)) i 0 ⌝ }
@@ -68,11 +58,12 @@ pub fn offset_at(offsets: &[u16], i: usize) -> u16
     0
 }
 
-// The length of slot i, 0 beyond the array.
+// The length of slot i.
 pub fn len_at(lengths: &[u8], i: usize) -> u16
-    ensures { λ r. ⌜ r ≡ getD (now (lengths .entry)) i 0 ⌝ }
+    requires { ⌜ i < length (now lengths) ⌝ }
+    ensures { λ r. ⌜ (r ≡ getD (now (lengths .entry)) i 0) × (r ≤ 255) ⌝ }
 {
-    byte_at(lengths, i) as u16
+    lengths[i] as u16
 }
 
 // The length of slot i is set.
@@ -90,7 +81,7 @@ pub fn mark_at(marks: &[u8], offsets: &[u16], lengths: &[u8], arena: &[u8], i: u
 {
     let mark = marks[i];
     if mark == 1 {
-        if arena.len() < (offsets[i] as usize) + (lengths[i] as usize) {
+        if arena.len() < (offsets[i] as usize) + (len_at(lengths, i) as usize) {
             return 3;
         }
         return 1;
@@ -199,7 +190,7 @@ pub fn look(
     let mark = marks[slot];
     if mark == 1 {
         let start = offsets[slot] as usize;
-        let end = start + (lengths[slot] as usize);
+        let end = start + (len_at(lengths, slot) as usize);
         if arena.len() < end {
             return Sight::Bad;
         }
@@ -331,7 +322,7 @@ pub fn survey(marks: &[u8], offsets: &[u16], lengths: &[u8], arena: &[u8]) -> Su
     while i < marks.len() {
         let state = marks[i];
         if state == 1 {
-            let len = lengths[i] as usize;
+            let len = len_at(lengths, i) as usize;
             used += len;
             top = higher_end((offsets[i] as usize) + len, top);
         } else if 2 < state {

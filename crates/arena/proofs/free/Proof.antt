@@ -53,7 +53,7 @@ same-length-4 : tie.Need-same-length-4
 same-length-4 c = search needs
 
 returns : tie.Need-returns
-returns c = emptied-lists _ _ _ _ _ _ _ _ (c .before .before .before .before .before .before .before .before .before .before .before .before .before .before .before .before .before .before .before .before .before .pre .used) (c .before .before .before .before .before .before .before .before .before .before .before .before .before .before .before .offset-at .ensures) (c .before .before .before .before .before .before .before .before .before .before .before .before .before .len-at .ensures) (c .before .before .before .before .before .before .before .before .before .before .before .close-gap .ensures) (c .before .before .before .before .before .before .fall-offsets .ensures) (c .before .before .put-len .ensures)
+returns c = emptied-lists _ _ _ _ _ _ _ _ (c .before .before .before .before .before .before .before .before .before .before .before .before .before .before .before .before .before .before .before .before .before .pre .used) (c .before .before .before .before .before .before .before .before .before .before .before .before .before .before .before .offset-at .ensures) (c .before .before .before .before .before .before .before .before .before .before .before .before .before .len-at .ensures .0) (c .before .before .before .before .before .before .before .before .before .before .before .close-gap .ensures) (c .before .before .before .before .before .before .fall-offsets .ensures) (c .before .before .put-len .ensures)
 
 pub free-spec : {M : Type 1} → statement M
 free-spec =

@@ -2,7 +2,7 @@
 use borrow.Author.Needs.{needs}
 use Rattle.answers.specs.Numbers.{spannedNumbers}
 use Rattle.answers.specs.Said.{spannedSaid}
-use Rattle.byte_set.proofs.Laws.{get-says, get-found}
+use Rattle.byte_set.proofs.Laws.{get-says, get-inside, get-found}
 use Rattle.byte_set.proofs.get.Statement.{statement}
 use Rattle.byte_set.proofs.get.Tie as tie
 
@@ -19,7 +19,7 @@ cast-offset : tie.Need-cast-offset
 cast-offset c = search needs
 
 len-at-requires : tie.Need-len-at-requires
-len-at-requires c κs = search needs
+len-at-requires c κs = get-inside _ _ (c .before .before .before .before .probe .ensures) (c .before .before .seen .given .1)
 
 cast-length : tie.Need-cast-length
 cast-length c = search needs
@@ -34,7 +34,7 @@ enum-known-seen-4 : tie.Need-enum-known-seen-4
 enum-known-seen-4 c = search needs
 
 returns : tie.Need-returns
-returns c = get-found _ _ (c .before .before .before .before .before .probe .ensures) (c .before .before .before .seen .given .1) (c .before .offset-at .ensures) (c .len-at .ensures)
+returns c = get-found _ _ (c .before .before .before .before .before .probe .ensures) (c .before .before .before .seen .given .1) (c .before .offset-at .ensures) (c .len-at .ensures .0)
 
 returns-2 : tie.Need-returns-2
 unfolding spannedNumbers spannedSaid

@@ -22,7 +22,7 @@ cast-offset : tie.Need-cast-offset
 cast-offset c = search needs
 
 len-at-requires : tie.Need-len-at-requires
-len-at-requires c κs = search needs
+len-at-requires c κs = omega (arith, next-inside _ _ _ (c .before .before .before .before .next-live .ensures) (c .before .before .next .given .1))
 
 cast-length : tie.Need-cast-length
 cast-length c = search needs
@@ -49,7 +49,7 @@ add-t20 : tie.Need-add-t20
 add-t20 c = search needs
 
 returns : tie.Need-returns
-returns c = pace-live _ _ _ (c .before .before .before .before .before .next-live .ensures) (c .before .before .before .next .given .1) (c .before .offset-at .ensures) (c .len-at .ensures)
+returns c = pace-live _ _ _ (c .before .before .before .before .before .next-live .ensures) (c .before .before .before .next .given .1) (c .before .offset-at .ensures) (c .len-at .ensures .0)
 
 returns-2 : tie.Need-returns-2
 returns-2 c = pace-bad _ _ _ (c .before .before .before .next-live .ensures) (c .before .enum-told .given .1) _ (c .refused .ensures)

@@ -16,8 +16,8 @@ offset-at-requires c κs = search needs
 cast-start : tie.Need-cast-start
 cast-start c = search needs
 
-byte-at-requires : tie.Need-byte-at-requires
-byte-at-requires c κs = search needs
+len-at-requires : tie.Need-len-at-requires
+len-at-requires c κs = let z = fitting-says _ (c .before .before .before .before .before .before .before .before .before .before .before .pre .1) in omega (arith, c .before .before .before .before .before .before .before .before .before .before .before .pre .2, z .lengths)
 
 cast-len : tie.Need-cast-len
 cast-len c = search needs
@@ -32,7 +32,7 @@ part-probe-start : tie.Need-part-probe-start
 part-probe-start c = search needs
 
 part-probe-end : tie.Need-part-probe-end
-part-probe-end c = span-within _ _ (c .before .before .before .mark-at .ensures) (c .before .before .if1 .taken) (c .before .offset-at .ensures) (c .byte-at .ensures)
+part-probe-end c = span-within _ _ (c .before .before .before .mark-at .ensures) (c .before .before .if1 .taken) (c .before .offset-at .ensures) (c .len-at .ensures .0)
 
 probe-requires : tie.Need-probe-requires
 probe-requires c κs = search needs
@@ -41,7 +41,7 @@ needed-by-requires : tie.Need-needed-by-requires
 needed-by-requires c κs = search needs
 
 returns : tie.Need-returns
-returns c = lack-live _ _ _ (c .before .before .before .before .before .before .mark-at .ensures) (c .before .before .before .before .before .if1 .taken) (c .before .before .before .before .offset-at .ensures) (c .before .before .before .byte-at .ensures) (search needs) (c .before .before .before .before .before .before .before .before .before .before .before .before .before .before .before .pre .0) (c .before .probe .ensures) (c .needed-by .ensures)
+returns c = lack-live _ _ _ (c .before .before .before .before .before .before .mark-at .ensures) (c .before .before .before .before .before .if1 .taken) (c .before .before .before .before .offset-at .ensures) (c .before .before .before .len-at .ensures .0) (search needs) (c .before .before .before .before .before .before .before .before .before .before .before .before .before .before .before .pre .0) (c .before .probe .ensures) (c .needed-by .ensures)
 
 returns-2 : tie.Need-returns-2
 returns-2 c = lack-idle _ _ _ (c .before .mark-at .ensures) (c .if1 .left)
@@ -53,7 +53,7 @@ lack-spec =
     mark-at-requires
     offset-at-requires
     cast-start
-    byte-at-requires
+    len-at-requires
     cast-len
     add-end
     sub-probe

@@ -14,8 +14,8 @@ offset-at-requires c κs = search needs
 cast-start : tie.Need-cast-start
 cast-start c = search needs
 
-byte-at-requires : tie.Need-byte-at-requires
-byte-at-requires c κs = search needs
+len-at-requires : tie.Need-len-at-requires
+len-at-requires c κs = search needs
 
 cast-len : tie.Need-cast-len
 cast-len c = search needs
@@ -30,7 +30,7 @@ part-store-start : tie.Need-part-store-start
 part-store-start c = search needs
 
 part-store-end : tie.Need-part-store-end
-part-store-end c = span-within _ _ (c .before .before .before .before .before .before .before .before .mark-at .ensures) (c .before .before .before .before .before .before .before .if1 .taken) (c .before .before .before .before .before .before .offset-at .ensures) (c .before .before .before .before .before .byte-at .ensures)
+part-store-end c = span-within _ _ (c .before .before .before .before .before .before .before .before .mark-at .ensures) (c .before .before .before .before .before .before .before .if1 .taken) (c .before .before .before .before .before .before .offset-at .ensures) (c .before .before .before .before .before .len-at .ensures .0)
 
 mul-store : tie.Need-mul-store
 mul-store c = search needs
@@ -39,7 +39,7 @@ shared-slice-read-store : tie.Need-shared-slice-read-store
 shared-slice-read-store c = c .before .before .before .before .before .before .before .before .before .before .before .before .before .before .before .before .before .before .before .before .before .pre .1
 
 store-requires : tie.Need-store-requires
-store-requires c κs = slot-storable _ _ _ (c .before .before .before .before .before .before .before .before .before .before .before .before .before .before .before .before .before .before .before .before .before .pre .0) (c .before .before .before .before .before .before .before .before .before .before .mark-at .ensures) (c .before .before .before .before .before .before .before .before .before .if1 .taken) (c .before .before .before .before .before .before .before .before .offset-at .ensures) (c .before .before .before .before .before .before .before .byte-at .ensures) (search needs)
+store-requires c κs = slot-storable _ _ _ (c .before .before .before .before .before .before .before .before .before .before .before .before .before .before .before .before .before .before .before .before .before .pre .0) (c .before .before .before .before .before .before .before .before .before .before .mark-at .ensures) (c .before .before .before .before .before .before .before .before .before .if1 .taken) (c .before .before .before .before .before .before .before .before .offset-at .ensures) (c .before .before .before .before .before .before .before .len-at .ensures .0) (search needs)
 
 same-length : tie.Need-same-length
 same-length c = search needs
@@ -57,7 +57,7 @@ same-length-5 : tie.Need-same-length-5
 same-length-5 c = search needs
 
 returns : tie.Need-returns
-returns c = slot-live _ _ _ (c .before .before .before .before .before .before .before .before .before .before .before .before .before .before .before .before .before .before .before .before .before .before .before .before .before .before .before .before .before .before .before .before .pre .0) (c .before .before .before .before .before .before .before .before .before .before .before .before .before .before .before .before .before .before .before .before .before .mark-at .ensures) (c .before .before .before .before .before .before .before .before .before .before .before .before .before .before .before .before .before .before .before .before .if1 .taken) (c .before .before .before .before .before .before .before .before .before .before .before .before .before .before .before .before .before .before .before .offset-at .ensures) (c .before .before .before .before .before .before .before .before .before .before .before .before .before .before .before .before .before .before .byte-at .ensures) (c .before .before .before .before .before .before .before .before .before .before .store .ensures)
+returns c = slot-live _ _ _ (c .before .before .before .before .before .before .before .before .before .before .before .before .before .before .before .before .before .before .before .before .before .before .before .before .before .before .before .before .before .before .before .before .pre .0) (c .before .before .before .before .before .before .before .before .before .before .before .before .before .before .before .before .before .before .before .before .before .mark-at .ensures) (c .before .before .before .before .before .before .before .before .before .before .before .before .before .before .before .before .before .before .before .before .if1 .taken) (c .before .before .before .before .before .before .before .before .before .before .before .before .before .before .before .before .before .before .before .offset-at .ensures) (c .before .before .before .before .before .before .before .before .before .before .before .before .before .before .before .before .before .before .len-at .ensures .0) (c .before .before .before .before .before .before .before .before .before .before .store .ensures)
 
 returns-2 : tie.Need-returns-2
 returns-2 c = slot-idle _ _ _ (c .before .before .before .before .before .before .before .before .before .before .before .before .pre .0) (c .before .mark-at .ensures) (c .if1 .left)
@@ -69,7 +69,7 @@ store-slot-spec =
     mark-at-requires
     offset-at-requires
     cast-start
-    byte-at-requires
+    len-at-requires
     cast-len
     add-end
     sub-store

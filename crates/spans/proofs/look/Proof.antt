@@ -18,17 +18,17 @@ shared-slice-read-start c = search needs
 cast-start : tie.Need-cast-start
 cast-start c = omega (arith, c .shared-slice-known7 .given (c .before .before .before .before .before .before .before .before .args .slot))
 
-shared-slice-read-end : tie.Need-shared-slice-read-end
-shared-slice-read-end c = search needs
+len-at-requires : tie.Need-len-at-requires
+len-at-requires c κs = search needs
 
 cast-end : tie.Need-cast-end
-cast-end c = omega (arith, c .shared-slice-known8 .given (c .before .before .before .before .before .before .before .before .before .args .slot))
+cast-end c = omega (arith, c .len-at .ensures .1)
 
 add-end : tie.Need-add-end
-add-end c = omega (arith, c .shared-slice-known8 .given (c .before .before .before .before .before .before .before .before .before .args .slot), c .before .shared-slice-known7 .given (c .before .before .before .before .before .before .before .before .before .args .slot))
+add-end c = omega (arith, c .len-at .ensures .1, c .before .shared-slice-known7 .given (c .before .before .before .before .before .before .before .before .before .args .slot))
 
 returns : tie.Need-returns
-returns c = sight-past _ _ _ refl (c .before .before .before .if1 .taken) refl (c .if2 .taken)
+returns c = sight-past _ _ _ refl (c .before .before .before .if1 .taken) (c .before .len-at .ensures .0) refl (c .if2 .taken)
 
 sub-same-bytes : tie.Need-sub-same-bytes
 sub-same-bytes c = search needs
@@ -43,10 +43,10 @@ same-bytes-requires : tie.Need-same-bytes-requires
 same-bytes-requires c κs = search needs
 
 returns-2 : tie.Need-returns-2
-returns-2 c = sight-same _ _ _ refl (c .before .before .before .before .before .before .if1 .taken) refl (c .before .before .before .if2 .left) refl (c .before .same-bytes .ensures) (c .if3 .taken)
+returns-2 c = sight-same _ _ _ refl (c .before .before .before .before .before .before .if1 .taken) (c .before .before .before .before .len-at .ensures .0) refl (c .before .before .before .if2 .left) refl (c .before .same-bytes .ensures) (c .if3 .taken)
 
 returns-3 : tie.Need-returns-3
-returns-3 c = sight-other _ _ _ refl (c .before .before .before .before .before .before .if1 .taken) refl (c .before .before .before .if2 .left) refl (c .before .same-bytes .ensures) (c .if3 .left)
+returns-3 c = sight-other _ _ _ refl (c .before .before .before .before .before .before .if1 .taken) (c .before .before .before .before .len-at .ensures .0) refl (c .before .before .before .if2 .left) refl (c .before .same-bytes .ensures) (c .if3 .left)
 
 returns-4 : tie.Need-returns-4
 returns-4 c = sight-never _ _ _ refl (c .if4 .taken)
@@ -65,7 +65,7 @@ look-spec =
     mul-start
     shared-slice-read-start
     cast-start
-    shared-slice-read-end
+    len-at-requires
     cast-end
     add-end
     returns

@@ -16,22 +16,22 @@ shared-slice-read-if2 : tie.Need-shared-slice-read-if2
 shared-slice-read-if2 c = search needs
 
 cast-if2 : tie.Need-cast-if2
-cast-if2 c = omega (arith, c .shared-slice-known2 .given (c .before .before .before .args .i))
+cast-if2 c = omega (arith, c .shared-slice-known6 .given (c .before .before .before .before .before .before .before .args .i))
 
-shared-slice-read-if2-2 : tie.Need-shared-slice-read-if2-2
-shared-slice-read-if2-2 c = search needs
+len-at-requires : tie.Need-len-at-requires
+len-at-requires c κs = search needs
 
 cast-if2-2 : tie.Need-cast-if2-2
-cast-if2-2 c = omega (arith, c .shared-slice-known3 .given (c .before .before .before .before .args .i))
+cast-if2-2 c = omega (arith, c .len-at .ensures .1)
 
 add-if2 : tie.Need-add-if2
-add-if2 c = omega (arith, c .shared-slice-known3 .given (c .before .before .before .before .args .i), c .before .shared-slice-known2 .given (c .before .before .before .before .args .i))
+add-if2 c = omega (arith, c .len-at .ensures .1, c .before .shared-slice-known6 .given (c .before .before .before .before .before .before .before .before .args .i))
 
 returns : tie.Need-returns
-returns c = mark-past _ _ refl (c .before .before .before .if1 .taken) refl (c .if2 .taken)
+returns c = mark-past _ _ refl (c .before .before .before .if1 .taken) (c .before .len-at .ensures .0) (c .if2 .taken)
 
 returns-2 : tie.Need-returns-2
-returns-2 c = mark-within _ _ refl (c .before .before .before .if1 .taken) refl (c .if2 .left)
+returns-2 c = mark-within _ _ refl (c .before .before .before .if1 .taken) (c .before .len-at .ensures .0) (c .if2 .left)
 
 returns-3 : tie.Need-returns-3
 returns-3 c = mark-other _ _ refl (c .if1 .left)
@@ -44,7 +44,7 @@ mark-at-spec =
     mul-if2
     shared-slice-read-if2
     cast-if2
-    shared-slice-read-if2-2
+    len-at-requires
     cast-if2-2
     add-if2
     returns

@@ -22,14 +22,14 @@ loop-holds c = survey-start _ (c .before .before .before .before .pre)
 shared-slice-read-state : tie.Need-shared-slice-read-state Inv-loop μ-loop
 shared-slice-read-state c = search needs
 
-shared-slice-read-len : tie.Need-shared-slice-read-len Inv-loop μ-loop
-shared-slice-read-len c = search needs
+len-at-requires : tie.Need-len-at-requires Inv-loop μ-loop
+len-at-requires c κs = search needs
 
 cast-len : tie.Need-cast-len Inv-loop μ-loop
-cast-len c = omega (arith, c .shared-slice-known6 .given (c .before .before .before .before .loop .i))
+cast-len c = omega (arith, c .len-at .ensures .1)
 
 add-used : tie.Need-add-used Inv-loop μ-loop
-add-used c = omega (arith, c .shared-slice-known6 .given (c .before .before .before .before .loop .i))
+add-used c = omega (arith, c .len-at .ensures .1)
 
 mul-higher-end : tie.Need-mul-higher-end Inv-loop μ-loop
 mul-higher-end c = search needs
@@ -38,10 +38,10 @@ shared-slice-read-higher-end : tie.Need-shared-slice-read-higher-end Inv-loop μ
 shared-slice-read-higher-end c = search needs
 
 cast-higher-end : tie.Need-cast-higher-end Inv-loop μ-loop
-cast-higher-end c = omega (arith, c .shared-slice-known7 .given (c .before .before .before .before .before .loop .i))
+cast-higher-end c = omega (arith, c .shared-slice-known6 .given (c .before .before .before .before .before .loop .i))
 
 add-higher-end : tie.Need-add-higher-end Inv-loop μ-loop
-add-higher-end c = omega (arith, c .shared-slice-known7 .given (c .before .before .before .before .before .loop .i), c .before .shared-slice-known6 .given (c .before .before .before .before .before .loop .i))
+add-higher-end c = omega (arith, c .shared-slice-known6 .given (c .before .before .before .before .before .loop .i), c .before .len-at .ensures .1)
 
 higher-end-requires : tie.Need-higher-end-requires Inv-loop μ-loop
 higher-end-requires c κs = search needs
@@ -58,7 +58,7 @@ loop-less c = search needs
 loop-again : tie.Need-loop-again Inv-loop μ-loop
 loop-again c =
     ⊎-elim
-    (λ w. survey-live (c .before .before .before .loop .inv) (c .before .before .loop-test .taken) refl (w .0 .taken) refl (omega (arith, w .1 .given (c .before .before .before .loop .i))) refl (w .4) (w .5 ∙ w .3 .ensures))
+    (λ w. survey-live (c .before .before .before .loop .inv) (c .before .before .loop-test .taken) refl (w .0 .taken) (w .1 .ensures) refl (w .4) (w .5 ∙ w .3 .ensures))
     (λ w. survey-pass (c .before .before .before .loop .inv) (c .before .before .loop-test .taken) refl (w .1 .left) (w .0 .left) (w .2) (w .3))
     (c .if1 .came)
 
@@ -79,7 +79,7 @@ survey-spec =
     μ-loop
     loop-holds
     shared-slice-read-state
-    shared-slice-read-len
+    len-at-requires
     cast-len
     add-used
     mul-higher-end
