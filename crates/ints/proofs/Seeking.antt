@@ -14,11 +14,12 @@ use Rattle.model.proofs.Cases.{by-bool}
 use Rattle.kinds.specs.declared.Probed.{Probed}
 use Rattle.kinds.specs.declared.Probed.the-variants.{Hit, Free, Refused}
 use Rattle.kinds.specs.Columns.{Column, values}
-use Rattle.ints.specs.Memory.{Cells, cells, fitting, memory}
+use Rattle.digest.specs.Home.{slotsFit}
+use Rattle.ints.specs.Memory.{Cells, cells, memory}
 use Rattle.ints.specs.Probing.{probing}
 use Rattle.ints.specs.Seeking.{seeking, fittingMap, seekingMap}
 use Rattle.kinds.proofs.Bridge.{seenOf, spotOf}
-use Rattle.ints.proofs.Bridge.{sized-is, sized-short, get-probing, remove-probing, entry-probing, hit-slot, free-slot}
+use Rattle.ints.proofs.Bridge.{sized-short, get-probing, remove-probing, entry-probing, hit-slot, free-slot}
 
 module _ {K W : Type 0} (M : Store K W) (m : M .State) (k : K) (e : M .sized m ≡ false) where
   get-unsized : get M m k ≡ no 1
@@ -66,13 +67,17 @@ module _ {W : Type 0} (C : Column W) (m : Cells C) (k : ℕ) where
 
 -- a map's sizes and the probing in it, from its own tests
 module _ (marks keys vs : List ℕ) where
-  pub map-fits-more : {b : Bool} → b ≡ fitting marks keys → b ≡ true → eqb (length marks) (length vs) ≡ fittingMap marks keys vs
+  pub map-fits-all : {b : Bool} → length marks ≡ length vs → length marks ≡ length keys → b ≡ slotsFit (length marks) → b ≡ fittingMap marks keys vs
   unfolding fittingMap
-  map-fits-more p q = sym (sized-is values (memory marks keys vs) ∙ (rw (← p, q)))
+  map-fits-all e f p = rw (p, eq-eqb (length marks) (length vs) e, eq-eqb (length marks) (length keys) f) (by-bool (slotsFit (length marks)) (λ q. rw q) (λ q. rw q))
 
-  pub map-fits-not : {b : Bool} → b ≡ fitting marks keys → b ≡ false → false ≡ fittingMap marks keys vs
+  pub map-fits-keys : (length marks ≡ length keys → ⊥) → false ≡ fittingMap marks keys vs
   unfolding fittingMap
-  map-fits-not p q = sym (sized-is values (memory marks keys vs) ∙ (rw (← p, q)))
+  map-fits-keys h = rw (ne-eqb (length marks) (length keys) h) (by-bool (slotsFit (length marks)) (λ q. rw q) (λ q. rw q))
+
+  pub map-fits-values : (length marks ≡ length vs → ⊥) → false ≡ fittingMap marks keys vs
+  unfolding fittingMap
+  map-fits-values h = sym (sized-short values (memory marks keys vs) (ne-eqb (length marks) (length vs) h))
 
   pub seek-long : (k : ℕ) {r : Probed} → length marks ≡ length vs → r ≡ probing marks keys k → r ≡ seekingMap marks keys vs k
   unfolding seekingMap seeking
