@@ -1,21 +1,17 @@
 /* Compares bench/plain.c with the library: random calls on random and on sound tables, answers and memory. Prints how many agree;
  * the status is 2 at the first that does not. */
+#include "arrays.h"
 #include "plain.h"
 
 #include <stdbool.h>
 #include <stdio.h>
 #include <string.h>
 
-enum { SLOTS = 4096, ARENA = 32768, LONGEST = 256, TRIALS = 3000, CALLS = 16, LARGE_CALLS = 400 };
+enum { LONGEST = 256, TRIALS = 3000, CALLS = 16, LARGE_CALLS = 400 };
 
 /* A table of either kind: its arrays and their counts, which may disagree. */
 struct table {
-    uint8_t marks[SLOTS];
-    uint64_t keys[SLOTS];
-    uint16_t offsets[SLOTS];
-    uint8_t lengths[SLOTS];
-    uint64_t values[SLOTS];
-    uint8_t arena[ARENA];
+    ARRAYS;
     size_t marks_count, keys_count, offsets_count, lengths_count, values_count, arena_count;
 };
 

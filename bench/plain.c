@@ -217,6 +217,16 @@ static bool surveyed(const struct bytes *t, struct survey *survey)
     return used <= t->arena_size && top <= used;
 }
 
+/* The tests of a call that puts a key in or takes it out: the first refusal, or 0 with what the survey counts. */
+static uint64_t tested(const struct bytes *t, size_t offsets, size_t lengths, size_t values, size_t key_length, struct survey *survey)
+{
+    if (!byte_sized(t->slots, offsets, lengths, values, t->arena_size))
+        return MOSS_REFUSED_SIZES;
+    if (key_length > KEY_LIMIT)
+        return MOSS_REFUSED_LONG_KEY;
+    return surveyed(t, survey) ? 0 : MOSS_REFUSED_DAMAGED;
+}
+
 /* A key and its value go into a free slot, the key's bytes behind the used ones. */
 static void fill(const struct bytes *t, size_t slot, size_t used, const uint8_t *key, size_t length, uint64_t value)
 {
@@ -268,12 +278,9 @@ moss_answer plain_byte_map_insert(uint8_t *marks, size_t marks_count, uint16_t *
 {
     struct bytes t = {marks, offsets, lengths, values, arena, marks_count, arena_count};
     struct survey survey;
-    if (!byte_sized(marks_count, offsets_count, lengths_count, values_count, arena_count))
-        return refused(MOSS_REFUSED_SIZES);
-    if (key_length > KEY_LIMIT)
-        return refused(MOSS_REFUSED_LONG_KEY);
-    if (!surveyed(&t, &survey))
-        return refused(MOSS_REFUSED_DAMAGED);
+    uint64_t refusal = tested(&t, offsets_count, lengths_count, values_count, key_length, &survey);
+    if (refusal != 0)
+        return refused(refusal);
     struct path path = byte_path(&t, key, key_length);
     if (path.end == HIT) {
         uint64_t old = values[path.slot];
@@ -294,12 +301,9 @@ moss_answer plain_byte_map_remove(uint8_t *marks, size_t marks_count, uint16_t *
 {
     struct bytes t = {marks, offsets, lengths, values, arena, marks_count, arena_count};
     struct survey survey;
-    if (!byte_sized(marks_count, offsets_count, lengths_count, values_count, arena_count))
-        return refused(MOSS_REFUSED_SIZES);
-    if (key_length > KEY_LIMIT)
-        return refused(MOSS_REFUSED_LONG_KEY);
-    if (!surveyed(&t, &survey))
-        return refused(MOSS_REFUSED_DAMAGED);
+    uint64_t refusal = tested(&t, offsets_count, lengths_count, values_count, key_length, &survey);
+    if (refusal != 0)
+        return refused(refusal);
     struct path path = byte_path(&t, key, key_length);
     if (path.end == MISS)
         return (moss_answer){.which = MOSS_ABSENT, .examined = path.examined};

@@ -3,6 +3,7 @@
  * MAKER is moss (the library), plain (bench/plain.c), uthash, rust, none (an empty function in the place of the first two) or
  * nothing (one in the place of the others). The status is 3 where a call answers otherwise than it must. */
 #define _POSIX_C_SOURCE 199309L
+#include "arrays.h"
 #include "others.h"
 #include "plain.h"
 
@@ -12,16 +13,11 @@
 #include <string.h>
 #include <time.h>
 
-enum { SLOTS = 4096, ARENA = 32768, MOST_BYTES = 32000, LONGEST = 32, ASKED = 1024, ABSENT = 1000000, STRIDE = 7919 };
+enum { MOST_BYTES = 32000, LONGEST = 32, ASKED = 1024, ABSENT = 1000000, STRIDE = 7919 };
 
 /* The arrays of either kind of map. */
 struct table {
-    uint8_t marks[SLOTS];
-    uint64_t keys[SLOTS];
-    uint16_t offsets[SLOTS];
-    uint8_t lengths[SLOTS];
-    uint64_t values[SLOTS];
-    uint8_t arena[ARENA];
+    ARRAYS;
     size_t slots;
     size_t arena_size;
     size_t used;

@@ -53,7 +53,7 @@ module _ (marks keys vs : List ℕ) (at : ℕ) where
       step-unpaid z s e = e ∙ (rw (fit marks keys vs p q, z))
 
       -- within the reach all slots are there
-      pub pace-fits : {g : ℕ} → at ≤ length marks → g ≡ reachOf (length marks) at budget → (at + g ≤ length marks) × (length keys ≡ length marks) × (length vs ≡ length marks)
+      pub pace-fits : {g : ℕ} → at < length marks → g ≡ reachOf (length marks) at budget → (at + g ≤ length marks) × (length keys ≡ length marks) × (length vs ≡ length marks)
       pace-fits l e = let (i, j) = same-long marks keys vs p q in (omega (arith, reach-high (length marks) at budget), i, j)
 
       module _ (h : budget ≡ 0 → ⊥) where
@@ -65,6 +65,6 @@ module _ (marks keys vs : List ℕ) (at : ℕ) where
         unfolding stepOf stepping step need pass pace stepSaid stepNumbers pacedNumbers
         step-done e = rw (fit marks keys vs p q, ne-eqb budget 0 h, le-leb at (length marks) (omega arith), eq-eqb at (length marks) e)
 
-        pub step-pace : at ≤ length marks → (at ≡ length marks → ⊥) → {g : ℕ} → g ≡ reachOf (length marks) at budget → (s : Step) → stepNumbers s ≡ paceOf (memory marks keys vs) at g → stepNumbers s ≡ stepOf (memory marks keys vs) at budget
+        pub step-pace : at < length marks → {g : ℕ} → g ≡ reachOf (length marks) at budget → (s : Step) → stepNumbers s ≡ paceOf (memory marks keys vs) at g → stepNumbers s ≡ stepOf (memory marks keys vs) at budget
         unfolding stepOf stepping step need pass pace paceOf
-        step-pace l n {g} e s d = d ∙ (rw (fit marks keys vs p q, ne-eqb budget 0 h, le-leb at (length marks) l, ne-eqb at (length marks) n, e))
+        step-pace l {g} e s d = d ∙ (rw (fit marks keys vs p q, ne-eqb budget 0 h, le-leb at (length marks) (omega arith), ne-eqb at (length marks) (λ z. omega arith), e))

@@ -83,17 +83,17 @@ impl Walk {
             if budget == 0 {
                 return refused(at, Refusal::NoBudget);
             }
+            if at < marks.len() {
+                return pace(marks, keys, values, at, reach(marks.len(), at, budget));
+            }
             if marks.len() < at {
                 return refused(at, Refusal::WalkBeyond);
             }
-            if at == marks.len() {
-                return Step {
-                    walk: Walk { at },
-                    out: Paced::Done,
-                    examined: 0,
-                };
-            }
-            return pace(marks, keys, values, at, reach(marks.len(), at, budget));
+            return Step {
+                walk: Walk { at },
+                out: Paced::Done,
+                examined: 0,
+            };
         }
         refused(at, Refusal::Sizes)
     }

@@ -11,7 +11,7 @@ use Rattle.model.specs.Store.{Store, path}
 use Rattle.answers.specs.declared.Refusal.the-variants.{Sizes}
 use Rattle.model.specs.Calls.{no, need, get, entry, remove}
 use Rattle.model.proofs.Cases.{both, by-bool}
-use Rattle.digest.specs.Home.{homeOfWord}
+use Rattle.digest.specs.Home.{homeOfWord, slotsFit}
 use Rattle.kinds.specs.declared.Probed.{Probed}
 use Rattle.kinds.specs.declared.Probed.the-variants.{Hit, Free, Refused}
 use Rattle.kinds.specs.Columns.{Column, values}
@@ -74,13 +74,17 @@ module _ {W : Type 0} (C : Column W) (m : Cells C) (k : ℕ) where
 
 -- a map's sizes and the probing in it, from its own tests
 module _ (marks keys vs : List ℕ) where
-  pub map-fits-more : {b : Bool} → b ≡ fitting marks keys → b ≡ true → eqb (length marks) (length vs) ≡ fittingMap marks keys vs
+  pub map-fits-all : {b : Bool} → length marks ≡ length vs → length marks ≡ length keys → b ≡ slotsFit (length marks) → b ≡ fittingMap marks keys vs
   unfolding fittingMap
-  map-fits-more p q = sym (sized-is values (memory marks keys vs) ∙ (rw (← p, q)))
+  map-fits-all e f p = rw (p, eq-eqb (length marks) (length vs) e, eq-eqb (length marks) (length keys) f) (by-bool (slotsFit (length marks)) (λ q. rw q) (λ q. rw q))
 
-  pub map-fits-not : {b : Bool} → b ≡ fitting marks keys → b ≡ false → false ≡ fittingMap marks keys vs
+  pub map-fits-keys : (length marks ≡ length keys → ⊥) → false ≡ fittingMap marks keys vs
   unfolding fittingMap
-  map-fits-not p q = sym (sized-is values (memory marks keys vs) ∙ (rw (← p, q)))
+  map-fits-keys h = rw (ne-eqb (length marks) (length keys) h) (by-bool (slotsFit (length marks)) (λ q. rw q) (λ q. rw q))
+
+  pub map-fits-values : (length marks ≡ length vs → ⊥) → false ≡ fittingMap marks keys vs
+  unfolding fittingMap
+  map-fits-values h = sym (sized-short values (memory marks keys vs) (ne-eqb (length marks) (length vs) h))
 
   pub seek-long : (k : ℕ) {r : Probed} → length marks ≡ length vs → r ≡ probing marks keys k → r ≡ seekingMap marks keys vs k
   unfolding seekingMap seeking

@@ -59,9 +59,6 @@ fn walk_path(marks: &[u8], keys: &[u64], key: u64, home: usize) -> Probed
     let mut n = 0;
     let mut free = size;
     loop {
-        if n == size {
-            break ended_at(free, size, n);
-        }
         let sight = look(marks[slot], keys[slot], key);
         match sight {
             Sight::Never => break ended_at(first_free(free, slot, size), size, n + 1),
@@ -72,8 +69,11 @@ fn walk_path(marks: &[u8], keys: &[u64], key: u64, home: usize) -> Probed
             Sight::Same => break Probed::Hit(slot, n + 1),
             Sight::Other => {}
         }
-        slot = next_slot(slot, size);
         n += 1;
+        if n == size {
+            break ended_at(free, size, n);
+        }
+        slot = next_slot(slot, size);
     }
 }
 
@@ -128,8 +128,10 @@ pub fn next_live(marks: &[u8], at: usize, end: usize) -> Next
 pub fn map_fits(marks: &[u8], keys: &[u64], values: &[u64]) -> bool
     ensures { λ r. ⌜ r ≡ fittingMap (now (marks .entry)) (now (keys .entry)) (now (values .entry)) ⌝ }
 {
-    if fits(marks, keys) {
-        return marks.len() == values.len();
+    if marks.len() == values.len() {
+        if marks.len() == keys.len() {
+            return slots_fit(marks.len() as u64);
+        }
     }
     false
 }

@@ -1,17 +1,20 @@
--- `ints::map_fits` meets its contract: marks and keys first, then the values.
+-- `ints::map_fits` meets its contract: values and keys as many as marks, then the slot count.
 use borrow.Author.Needs.{needs}
-use Rattle.ints.proofs.Seeking.{map-fits-more, map-fits-not}
+use Rattle.ints.proofs.Seeking.{map-fits-all, map-fits-keys, map-fits-values}
 use Rattle.ints.proofs.map_fits.Statement.{statement}
 use Rattle.ints.proofs.map_fits.Tie as tie
 
-fits-requires : tie.Need-fits-requires
-fits-requires c κs = search needs
+slots-fit-requires : tie.Need-slots-fit-requires
+slots-fit-requires c κs = search needs
 
 returns : tie.Need-returns
-returns c = map-fits-more _ _ _ (c .before .fits2 .ensures) (c .if1 .taken)
+returns c = map-fits-all _ _ _ (c .before .before .if1 .taken) (c .before .if2 .taken) (c .slots-fit .ensures)
 
 returns-2 : tie.Need-returns-2
-returns-2 c = map-fits-not _ _ _ (c .before .fits2 .ensures) (c .if1 .left)
+returns-2 c = map-fits-keys _ _ _ (c .if2 .left)
+
+returns-3 : tie.Need-returns-3
+returns-3 c = map-fits-values _ _ _ (c .if1 .left)
 
 pub map-fits-spec : {M : Type 1} → statement M
-map-fits-spec = tie.close (tie.spec fits-requires returns returns-2)
+map-fits-spec = tie.close (tie.spec slots-fit-requires returns returns-2 returns-3)

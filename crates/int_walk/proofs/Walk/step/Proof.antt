@@ -1,4 +1,4 @@
--- `int_walk::Walk::step` meets its contract: refusals 1, 3 and 4, done at S, else the slots within the reach.
+-- `int_walk::Walk::step` meets its contract: refusals 1 and 3, the slots within the reach before S, refusal 4 beyond it, and done at S.
 use borrow.Author.Needs.{needs}
 use Rattle.int_walk.proofs.Steps.{step-unfit, step-unpaid, step-beyond, step-done, pace-fits, step-pace}
 use Rattle.int_walk.proofs.Walk.step.Statement.{statement}
@@ -13,23 +13,23 @@ refused-requires c κs = search needs
 returns : tie.Need-returns
 returns c = step-unpaid _ _ _ _ _ (c .before .before .before .map-fits .ensures) (c .before .before .if1 .taken) (c .before .if2 .taken) _ (c .refused .ensures)
 
-refused-requires-2 : tie.Need-refused-requires-2
-refused-requires-2 c κs = search needs
-
-returns-2 : tie.Need-returns-2
-returns-2 c = step-beyond _ _ _ _ _ (c .before .before .before .before .map-fits .ensures) (c .before .before .before .if1 .taken) (c .before .before .if2 .left) (c .before .if3 .taken) _ (c .refused2 .ensures)
-
-returns-3 : tie.Need-returns-3
-returns-3 c = step-done _ _ _ _ _ (c .before .before .before .before .map-fits .ensures) (c .before .before .before .if1 .taken) (c .before .before .if2 .left) (c .if4 .taken)
-
 reach-requires : tie.Need-reach-requires
 reach-requires c κs = search needs
 
 pace-requires : tie.Need-pace-requires
-pace-requires c κs = pace-fits _ _ _ _ _ (c .before .before .before .before .before .map-fits .ensures) (c .before .before .before .before .if1 .taken) (c .before .before .if3 .left) (c .reach .ensures)
+pace-requires c κs = pace-fits _ _ _ _ _ (c .before .before .before .before .map-fits .ensures) (c .before .before .before .if1 .taken) (c .before .if3 .taken) (c .reach .ensures)
+
+returns-2 : tie.Need-returns-2
+returns-2 c = step-pace _ _ _ _ _ (c .before .before .before .before .before .map-fits .ensures) (c .before .before .before .before .if1 .taken) (c .before .before .before .if2 .left) (c .before .before .if3 .taken) (c .before .reach .ensures) _ (c .pace .ensures)
+
+refused-requires-2 : tie.Need-refused-requires-2
+refused-requires-2 c κs = search needs
+
+returns-3 : tie.Need-returns-3
+returns-3 c = step-beyond _ _ _ _ _ (c .before .before .before .before .before .map-fits .ensures) (c .before .before .before .before .if1 .taken) (c .before .before .before .if2 .left) (c .before .if4 .taken) _ (c .refused2 .ensures)
 
 returns-4 : tie.Need-returns-4
-returns-4 c = step-pace _ _ _ _ _ (c .before .before .before .before .before .before .map-fits .ensures) (c .before .before .before .before .before .if1 .taken) (c .before .before .before .before .if2 .left) (c .before .before .before .if3 .left) (c .before .before .if4 .left) (c .before .reach .ensures) _ (c .pace .ensures)
+returns-4 c = step-done _ _ _ _ _ (c .before .before .before .before .map-fits .ensures) (c .before .before .before .if1 .taken) (c .before .before .if2 .left) (search needs)
 
 refused-requires-3 : tie.Need-refused-requires-3
 refused-requires-3 c κs = search needs
@@ -44,11 +44,11 @@ step-spec =
     map-fits-requires
     refused-requires
     returns
-    refused-requires-2
-    returns-2
-    returns-3
     reach-requires
     pace-requires
+    returns-2
+    refused-requires-2
+    returns-3
     returns-4
     refused-requires-3
     returns-5)
