@@ -1,15 +1,14 @@
 -- The plans of insert and remove give what the acts need: a slot to fill, or a slot to free.
-use Prim.Native.Nat.{ℕ, suc, _+_, _-_, _≤_, _<_}
-use mathlib.Core.Bool.{Bool, true, false, cond}
+use Prim.Native.Nat.{ℕ, _-_, _≤_, _<_}
+use mathlib.Core.Bool.{Bool, true, false}
 use mathlib.Core.List.{List}
 use mathlib.Core.Path.{_≡_, refl, sym, _∙_}
 use native.Mathlib.Omega.{arith}
 use borrow.Author.Tests.{leb-true}
-use lib.Dec.{ltb, leb, eqb}
-use lib.ListN.{length, getD}
-use Rattle.model.specs.Slots.{live}
-use Rattle.model.specs.Path.{Find, hit, miss, hurt, at, find}
-use Rattle.model.specs.Store.{path, slotAt}
+use lib.Dec.{ltb, eqb}
+use lib.ListN.{length}
+use Rattle.model.specs.Path.{Find, hit, miss, hurt, at}
+use Rattle.model.specs.Store.{path}
 use Rattle.model.proofs.Cases.{by-bool}
 use Rattle.model.proofs.Path.{at-below, hit-at}
 use Rattle.digest.specs.Home.{homeOf, keyFits, keyLimit}
@@ -24,11 +23,11 @@ use Rattle.spans.specs.declared.Placed.the-variants as placed
 use Rattle.spans.specs.declared.Located.{Located}
 use Rattle.spans.specs.declared.Located.the-variants as located
 use Rattle.spans.specs.Keys.{byteKeys}
-use Rattle.spans.specs.Memory.{Spans, Strings, strings, bare, endAt, usedOf, harmful, fitting, askedOf, keptOf}
+use Rattle.spans.specs.Memory.{Spans, Strings, strings, bare, usedOf, harmful, fitting, askedOf, keptOf}
 use Rattle.spans.specs.Sound.{liveAt}
 use Rattle.spans.specs.Planning.{placedBy, roomFor, placing, locatedBy, locating}
 use Rattle.spans.specs.Probing.{pathOf}
-use Rattle.spans.proofs.Sizes.{Sized, fitting-says}
+use Rattle.spans.proofs.Sizes.{fitting-says}
 use Rattle.spans.proofs.Bridge.{path-is}
 use Rattle.spans.proofs.Held.{live-says, unharmed-says}
 use Rattle.arena.specs.Needs.{Aligned, Fillable, Freeable}

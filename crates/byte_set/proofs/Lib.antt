@@ -1,4 +1,3 @@
 -- The laws of byte sets.
-pub mod Counts
 pub mod Laws
 pub mod Settled

@@ -1,22 +1,21 @@
 -- The union's tests over the spans are those of its definition.
-use Prim.Native.Nat.{ℕ, zero, suc, _-_, _≤_}
-use mathlib.Core.Bool.{Bool, true, false, cond, not}
+use Prim.Native.Nat.{ℕ, zero, suc, _≤_}
+use mathlib.Core.Bool.{Bool, true, false, cond}
 use mathlib.Core.List.{List}
 use mathlib.Core.Path.{_≡_, refl, sym, _∙_, ap, fun-ext}
-use native.Mathlib.Omega.{arith}
-use lib.Dec.{ltb, leb, eqb}
+use lib.Dec.{ltb}
 use lib.ListN.{length}
 use Rattle.model.specs.Slots.{weigh, total, count}
 use Rattle.model.specs.Path.{Find, hit, miss, hurt}
-use Rattle.model.specs.Store.{path, live-count, used, hurtful}
-use Rattle.model.specs.Calls.{Or, no, ok, need, give, missed, lacking, needs, ruined, union}
+use Rattle.model.specs.Store.{path, live-count, hurtful}
+use Rattle.model.specs.Calls.{Or, need, give, missed, lacking, needs, ruined, union}
 use Rattle.model.proofs.Cases.{by-bool}
 use Rattle.answers.specs.declared.Refusal.the-variants.{Sizes}
 use Rattle.digest.specs.Home.{homeOf}
 use Rattle.kinds.specs.Columns.{values}
 use Rattle.kinds.specs.Marks.{cell}
 use Rattle.kinds.specs.Probing.{along}
-use Rattle.spans.specs.Memory.{Spans, Strings, keyAt, slotsOf, bare, usedOf, harmful, fitting}
+use Rattle.spans.specs.Memory.{Spans, Strings, keyAt, slotsOf, bare, harmful, fitting}
 use Rattle.spans.specs.Marks.{markAt}
 use Rattle.spans.specs.Kinds.{maps}
 use Rattle.spans.specs.Probing.{pathOf}
@@ -25,8 +24,7 @@ use Rattle.spans.proofs.Held.{bare-damaged, unharmed-whole}
 use Rattle.spans.proofs.Marks.{slot-cell}
 use Rattle.spans.proofs.Sizes.{fitting-says}
 use Rattle.byte_map.specs.Seeking.{sizedOf}
-use Rattle.byte_union.specs.declared.Planned.{Planned}
-use Rattle.byte_union.specs.declared.Planned.the-variants.{Go, Refused}
+use Rattle.byte_union.specs.declared.Planned.the-variants.{Refused}
 use Rattle.byte_union.specs.Needs.{missing, lackOf, lacksOf, roomOf, planned, planOf}
 
 -- right sizes: few slots

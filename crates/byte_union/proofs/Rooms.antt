@@ -15,7 +15,7 @@ use Rattle.kinds.specs.Marks.{cell, counted}
 use Rattle.kinds.proofs.Scanning.{cell-bad, counted-low}
 use Rattle.spans.specs.declared.Surveyed.{Surveyed}
 use Rattle.spans.specs.declared.Surveyed.the-variants as surveyed
-use Rattle.spans.specs.Memory.{Spans, keyAt, bare, usedOf}
+use Rattle.spans.specs.Memory.{Spans, keyAt, bare}
 use Rattle.spans.specs.Marks.{markAt}
 use Rattle.spans.specs.Surveying.{surveying}
 use Rattle.spans.proofs.Held.{unharmed-whole}

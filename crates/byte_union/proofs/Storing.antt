@@ -1,7 +1,7 @@
 -- The insert rule for one pair, by how the probing of its key ended.
 use Prim.Native.Nat.{ℕ, _+_, _≤_, _<_}
-use mathlib.Core.Bool.{Bool, true, false, _&&_}
-use mathlib.Core.List.{List, [], _∷_}
+use mathlib.Core.Bool.{true}
+use mathlib.Core.List.{List, []}
 use mathlib.Core.Path.{_≡_, refl, sym, _∙_, ap}
 use native.Mathlib.Omega.{arith}
 use borrow.Author.Tests.{eqb-true}
@@ -30,8 +30,8 @@ use Rattle.spans.proofs.Held.{free-says, unharmed-says}
 use Rattle.spans.proofs.Places.{strings-steady}
 use Rattle.spans.proofs.Sizes.{fitting-says}
 use Rattle.spans.proofs.Writes.{fill-used}
-use Rattle.arena.specs.Needs.{Aligned, Fillable}
-use Rattle.byte_union.specs.Stores.{Ready, Storable}
+use Rattle.arena.specs.Needs.{Fillable}
+use Rattle.byte_union.specs.Stores.{Storable}
 use Rattle.byte_union.proofs.Needing.{probed-path}
 use Rattle.byte_union.proofs.Plans.{few-slots}
 

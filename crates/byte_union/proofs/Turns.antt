@@ -1,23 +1,23 @@
 -- The insert rule for the right's pairs, slot by slot.
 use Prim.Native.Nat.{ℕ, zero, suc, _+_, _-_, _≤_, _<_}
 use mathlib.Core.List.{List, [], _∷_, _++_, append-assoc, append-nil}
-use mathlib.Core.Path.{_≡_, refl, sym, _∙_, ap}
+use mathlib.Core.Path.{_≡_, refl, sym, _∙_}
 use native.Mathlib.Numerals.{add-one}
 use native.Mathlib.Omega.{arith}
 use lib.ListN.{length, getD, take, drop}
-use Rattle.model.specs.Slots.{Slot, never, freed, bad, live, Table, pairOf, pairs}
+use Rattle.model.specs.Slots.{Slot, never, freed, bad, live, pairOf, pairs}
 use Rattle.model.specs.Finite.{mass, firsts}
 use Rattle.model.specs.Store.{path}
 use Rattle.model.specs.Calls.{rule, storeAll}
 use Rattle.model.proofs.Running.{Roomy, one-more}
 use Rattle.kinds.specs.Columns.{values}
 use Rattle.kinds.specs.Marks.{cell}
-use Rattle.spans.specs.Memory.{Spans, Strings, keyAt, usedOf}
+use Rattle.spans.specs.Memory.{Strings, keyAt, usedOf}
 use Rattle.spans.specs.Marks.{markAt}
 use Rattle.spans.specs.Kinds.{maps}
 use Rattle.spans.proofs.Marks.{slot-cell}
 use Rattle.byte_union.specs.Stores.{Ready, Storable, pairAt, pairsOf, slotStored, allStored}
-use Rattle.byte_union.proofs.Needing.{span-within, span-key, span-length}
+use Rattle.byte_union.proofs.Needing.{span-key, span-length}
 use Rattle.byte_union.proofs.Storing.{steady}
 
 -- a slot that is not live has no pair

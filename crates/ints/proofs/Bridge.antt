@@ -7,8 +7,7 @@ use native.Mathlib.Omega.{arith}
 use borrow.Author.Tests.{le-leb}
 use lib.Dec.{eqb, leb}
 use lib.ListN.{length}
-use Rattle.model.specs.Store.{path, slotAt, live-count, used, hurtful}
-use Rattle.model.specs.Path.{hit}
+use Rattle.model.specs.Store.{path, live-count, used, hurtful}
 use Rattle.model.specs.Calls.{Or, no, need, pass, seenBy, spotBy, get, entry, remove}
 use Rattle.model.specs.Walk.{paceTo}
 use Rattle.model.proofs.Cases.{by-bool}

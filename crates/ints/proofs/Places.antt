@@ -1,13 +1,12 @@
 -- Integer tables on any memory: a write does no damage, and changes only the places that it names.
 use Prim.Native.Nat.{ℕ}
-use mathlib.Core.Bool.{Bool, true, false}
-use mathlib.Core.Logic.{_⊎_, inl, inr}
+use mathlib.Core.Bool.{false}
+use mathlib.Core.Logic.{inl, inr}
 use mathlib.Core.Path.{_≡_, refl, ap}
-use native.Mathlib.Omega.{arith}
 use borrow.Author.Tests.{eqb-false}
 use lib.ListN.{set}
 use lib.Seq.{getD-set-other}
-use Rattle.model.specs.Lawful.{Wrote, Lawful, Steady}
+use Rattle.model.specs.Lawful.{Steady}
 use Rattle.model.specs.Places.{Apart}
 use Rattle.kinds.specs.Columns.{Column}
 use Rattle.kinds.proofs.Columns.{Orderly}

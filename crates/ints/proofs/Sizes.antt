@@ -1,9 +1,8 @@
 -- What fitting sizes say, and the probing's answer by them.
 use Prim.Native.Nat.{ℕ, _<_}
-use mathlib.Core.Bool.{Bool, true, false, _&&_}
+use mathlib.Core.Bool.{Bool, true, false}
 use mathlib.Core.List.{List}
-use mathlib.Core.Path.{_≡_, refl, sym, _∙_}
-use native.Mathlib.Omega.{arith}
+use mathlib.Core.Path.{_≡_, sym, _∙_}
 use borrow.Author.Tests.{ltb-true, eqb-true}
 use lib.Dec.{ltb, leb, eqb}
 use lib.ListN.{length}

@@ -1,14 +1,13 @@
 -- The three demands for the published calls of any kind: the theory's theorems, through the calls that they are.
 use Prim.Native.Nat.{ℕ, _<_}
-use mathlib.Core.Bool.{Bool, true, false}
+use mathlib.Core.Bool.{true, false}
 use mathlib.Core.List.{List}
-use mathlib.Core.Logic.{_⊎_}
 use mathlib.Core.Option.{none}
-use mathlib.Core.Path.{_≡_, refl, sym, _∙_, ap}
+use mathlib.Core.Path.{_≡_, refl, _∙_}
 use native.Mathlib.Omega.{arith}
 use Rattle.model.specs.Store.{Store}
 use Rattle.model.specs.Calls.{Or, no, ok}
-use Rattle.model.specs.Machine.{Answer, refused, fine, number, truth, seen, spot, value, paced, report, World, answer, left, placed, turned}
+use Rattle.model.specs.Machine.{Answer, refused, fine, number, truth, seen, spot, value, paced, report, World, answer, turned}
 use Rattle.model.specs.Lawful.{Lawful, Steady}
 use Rattle.model.specs.Demand1.{Least, rows, refusal, numberIn}
 use Rattle.model.specs.Demand2.{refuses, InStep}
@@ -17,7 +16,6 @@ use Rattle.model.proofs.Cases.{by-bool}
 use Rattle.model.proofs.Least.{KeyBar, lowest-given, refused-still}
 use Rattle.model.proofs.Demand2 as model
 use Rattle.model.proofs.Places.{only-named}
-use Rattle.kinds.specs.Told.{Told}
 use Rattle.kinds.specs.Published.{Published, Linked, afterwards, meantAll}
 
 module _ {K W : Type 0} where

@@ -1,18 +1,17 @@
 -- A call changes no lent place that its rule does not name, on any memory.
-use Prim.Native.Nat.{ℕ, _+_, _-_, _≤_, _<_}
+use Prim.Native.Nat.{ℕ}
 use mathlib.Core.Bool.{Bool, true, false, cond, not}
 use mathlib.Core.List.{List, [], _∷_}
-use mathlib.Core.Path.{_≡_, refl, sym, _∙_, ap}
+use mathlib.Core.Path.{_≡_, refl, _∙_}
 use native.Mathlib.Omega.{arith}
 use borrow.Author.Tests.{lt-ltb}
 use Rattle.model.specs.Slots.{pairs}
 use Rattle.model.specs.Path.{Find, hit, miss, hurt}
-use Rattle.model.specs.Store.{Store, path, slotAt, used}
-use Rattle.model.specs.Calls.{Or, no, ok, need, pass, give, Seen, found, absent, Spot, occupied, vacant, Handle, on-occupied, on-vacant, entry, storedBy, after-insert, remove, removedBy, after-remove, acted, capacity, after-make, copy, after-copy, ruleBy, rule, storeAll, union, after-union, occupied-get, after-set, occupied-remove, after-drop, vacancy, after-fill, after-or-insert, after-insert-entry, spotBy, seenBy}
-use Rattle.model.specs.Machine.{Own, makes, clears, capacities, lens, empties, reserves, gets, contains-keys, removes, entries, inserts, occupied-gets, occupied-removes, occupied-sets, vacant-inserts, or-inserts, insert-entries, Call, own, copies, unions, steps, leaves, left}
+use Rattle.model.specs.Store.{Store, path, slotAt}
+use Rattle.model.specs.Calls.{Or, no, ok, need, pass, Seen, found, absent, Spot, occupied, vacant, on-occupied, on-vacant, entry, storedBy, after-insert, remove, removedBy, after-remove, acted, capacity, after-make, copy, after-copy, ruleBy, rule, storeAll, union, after-union, occupied-get, after-set, occupied-remove, after-drop, vacancy, after-fill, after-or-insert, after-insert-entry, spotBy, seenBy}
+use Rattle.model.specs.Machine.{Own, makes, clears, capacities, lens, empties, reserves, gets, contains-keys, removes, entries, inserts, occupied-gets, occupied-removes, occupied-sets, vacant-inserts, or-inserts, insert-entries, own, copies, unions, steps, leaves, left}
 use Rattle.model.specs.Lawful.{Steady}
 use Rattle.model.specs.Places.{Places, Apart, accepted, insert-names, remove-names, handle-names, own-names, rule-names, all-names, names, OnlyNamed}
-use Rattle.model.proofs.Cases.{by-bool}
 use Rattle.model.proofs.Path.{at-below}
 use Rattle.model.proofs.Accepted.{need-ok, pass-ok, seen-found, spot-vacant, grip-live, good-vacant, entry-spot, remove-seen, removed-grip, vacancy-good}
 use Rattle.model.proofs.Keeps.{path-live}

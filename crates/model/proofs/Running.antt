@@ -1,13 +1,13 @@
 -- An accepted union never fails on its way, on any memory: what was counted on the left at first is enough for every pair.
-use Prim.Native.Nat.{ℕ, zero, suc, _+_, _-_, _≤_, _<_}
+use Prim.Native.Nat.{ℕ, suc, _+_, _-_, _≤_, _<_}
 use mathlib.Core.Bool.{Bool, true, false, cond, not}
 use mathlib.Core.List.{List, [], _∷_}
 use mathlib.Core.Path.{_≡_, refl, sym, _∙_, ap, subst}
 use native.Mathlib.Omega.{arith}
 use borrow.Author.Tests.{lt-ltb, le-leb, leb-true}
-use lib.Dec.{ltb, leb}
-use Rattle.model.specs.Slots.{Slot, never, freed, bad, live, Table, Keys, put, frees, weigh, total, count, damaged, pairs}
-use Rattle.model.specs.Path.{Find, hit, miss, hurt, at, stops, stopAt, freeAt, find}
+use lib.Dec.{leb}
+use Rattle.model.specs.Slots.{Slot, never, freed, bad, live, Table, Keys, put, frees, weigh, total, pairs}
+use Rattle.model.specs.Path.{Find, hit, miss, hurt, at, stops, find}
 use Rattle.model.specs.Finite.{mass, firsts}
 use Rattle.model.specs.Store.{Store, path, slotAt, live-count, used, hurtful}
 use Rattle.model.specs.Calls.{ok, need, Spot, occupied, vacant, spotBy, ruleBy, rule, missed, lacking, needs, ruined, union}
@@ -15,7 +15,7 @@ use Rattle.model.specs.Lawful.{Wrote, Steady}
 use Rattle.model.specs.Running.{Running}
 use Rattle.model.proofs.Cases.{by-bool, by-lt, by-eq, by-same}
 use Rattle.model.proofs.Slots.{put-same, put-other, by-put, total-put, damaged-not, damaged-bad, count-high}
-use Rattle.model.proofs.Path.{place, place-below, at-place, at-once, at-below, stop-before, Ended, ended-hit, find-ended, hit-at, hurt-at, find-hit, free-here, miss-free}
+use Rattle.model.proofs.Path.{place, place-below, at-place, at-once, at-below, stop-before, Ended, ended-hit, find-ended, hit-at, hurt-at, find-hit, free-here}
 use Rattle.model.proofs.Sound.{no-free-full}
 use Rattle.model.proofs.Accepted.{need-ok}
 use Rattle.model.proofs.Pairs.{total-pairs}

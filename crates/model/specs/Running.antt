@@ -1,5 +1,4 @@
 -- A list of pairs that the insert rule takes one after the other, and never refuses.
-use Prim.Native.Nat.{ℕ}
 use mathlib.Core.List.{List, [], _∷_}
 use mathlib.Core.Path.{_≡_}
 use Rattle.model.specs.Store.{Store, path}

@@ -1,6 +1,6 @@
 -- What a wrapper hands over: the callee's answer as numbers, and the memory that the callee left.
 -- Assumes nothing.
-use mathlib.Core.Path.{_≡_, refl}
+use mathlib.Core.Path.{_≡_}
 use Prim.Native.Nat.{ℕ}
 use Rattle.model.specs.Calls.{Handle}
 use Rattle.answers.specs.declared.Numbers.{Numbers}

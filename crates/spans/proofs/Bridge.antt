@@ -1,13 +1,13 @@
 -- What the answers over the spans say of the calls' definitions, for any column: the laws that byte maps and byte sets cite.
-use Prim.Native.Nat.{ℕ, zero, suc, _+_, _-_, _≤_, _<_}
-use mathlib.Core.Bool.{Bool, true, false, _&&_}
+use Prim.Native.Nat.{ℕ, zero, suc, _+_, _≤_, _<_}
+use mathlib.Core.Bool.{Bool, true, false}
 use mathlib.Core.List.{List}
-use mathlib.Core.Path.{_≡_, refl, sym, _∙_, ap}
+use mathlib.Core.Path.{_≡_, refl, sym, _∙_}
 use native.Mathlib.Omega.{arith}
 use borrow.Author.Tests.{eqb-true}
-use lib.Dec.{leb, eqb}
+use lib.Dec.{eqb}
 use lib.ListN.{length}
-use Rattle.model.specs.Slots.{Slot, never, freed, bad, live, weigh, total}
+use Rattle.model.specs.Slots.{weigh, total}
 use Rattle.model.specs.Store.{path, live-count, used, hurtful}
 use Rattle.model.specs.Calls.{Or, no, ok, need, pass, Seen, found, absent, Spot, occupied, vacant, seenBy, spotBy, get, entry, remove}
 use Rattle.model.specs.Walk.{paceTo}

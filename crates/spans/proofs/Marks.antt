@@ -5,10 +5,9 @@ use mathlib.Core.List.{List}
 use mathlib.Core.Path.{_≡_, refl, sym, _∙_, fun-ext}
 use native.Mathlib.Omega.{arith}
 use borrow.Author.Tests.{le-leb, lt-leb, leb-true}
-use lib.Dec.{eqb, leb}
+use lib.Dec.{leb}
 use lib.ListN.{length, getD, drop, length-drop, List·getD-eq-default}
 use lib.Seq.{length-take-le}
-use Rattle.model.proofs.Cases.{by-bool}
 use Rattle.kinds.specs.Marks.{cell, cellsOf}
 use Rattle.spans.specs.Memory.{Spans, part, endAt, keyAt, spanned, slotsOf}
 use Rattle.spans.specs.Marks.{shown, markAt}

@@ -1,8 +1,8 @@
 -- What the survey and the plans of insert and remove say, test by test.
-use Prim.Native.Nat.{ℕ, _-_, _≤_, _<_}
+use Prim.Native.Nat.{ℕ, _-_, _≤_}
 use mathlib.Core.Bool.{Bool, true, false}
 use mathlib.Core.List.{List}
-use mathlib.Core.Path.{_≡_, refl, sym, _∙_}
+use mathlib.Core.Path.{_≡_, sym, _∙_}
 use native.Mathlib.Omega.{arith}
 use borrow.Author.Tests.{ltb-false}
 use lib.Dec.{ltb, leb, eqb}
@@ -18,7 +18,7 @@ use Rattle.spans.specs.declared.Placed.{Placed}
 use Rattle.spans.specs.declared.Placed.the-variants as placed
 use Rattle.spans.specs.declared.Located.{Located}
 use Rattle.spans.specs.declared.Located.the-variants as located
-use Rattle.spans.specs.Memory.{Spans, bare, usedOf, beyond, harmful, fitting, askedOf, keptOf}
+use Rattle.spans.specs.Memory.{Spans, bare, usedOf, harmful, fitting, askedOf, keptOf}
 use Rattle.spans.specs.Planning.{placedBy, roomFor, placing, locatedBy, locating}
 use Rattle.spans.specs.Probing.{pathFrom, pathOf}
 use Rattle.spans.specs.Surveying.{surveying}

@@ -1,5 +1,5 @@
 -- Every worked row holds, computed by the checker.
-use mathlib.Core.Path.{_≡_, refl}
+use mathlib.Core.Path.{refl}
 use Rattle.lists.specs.Bytes.{le}
 use Rattle.model.specs.Slots.{frees, hurts, weigh, total, damaged}
 use Rattle.model.specs.Path.{from, at, stops, ends, stopAt, freeAt, find}

@@ -1,7 +1,7 @@
 -- `byte_set::is_empty` meets its contract: as the length, told as whether it is 0.
 use borrow.Author.Needs.{needs}
 use Rattle.spans.specs.Kinds.{sets}
-use Rattle.byte_set.proofs.Counts.{empty-none, empty-some, empty-not}
+use Rattle.kinds.proofs.Counts.{empty-none, empty-some, empty-not}
 use Rattle.byte_set.proofs.is_empty.Statement.{statement}
 use Rattle.byte_set.proofs.is_empty.Tie as tie
 

@@ -2,7 +2,7 @@
 use borrow.Author.Needs.{needs}
 use native.Mathlib.Omega.{arith}
 use Rattle.spans.specs.Kinds.{sets}
-use Rattle.byte_set.proofs.Counts.{count-within, reserve-room, reserve-none, reserve-not}
+use Rattle.kinds.proofs.Counts.{count-within, reserve-room, reserve-none, reserve-not}
 use Rattle.byte_set.proofs.reserve.Statement.{statement}
 use Rattle.byte_set.proofs.reserve.Tie as tie
 

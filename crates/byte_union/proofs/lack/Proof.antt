@@ -1,5 +1,4 @@
 -- `byte_union::lack` meets its contract: a live slot by how the path of its key ends in the left.
-use Prim.Native.Nat.{_≤_}
 use native.Mathlib.Omega.{arith}
 use borrow.Author.Needs.{needs}
 use Rattle.spans.proofs.Sizes.{fitting-says}

@@ -1,6 +1,5 @@
 -- `byte_union::lacks` meets its contract. The loop's invariant: the needs of the slots passed. The measure is how many are left.
 use Prim.Native.Nat.{_-_}
-use native.Mathlib.Omega.{arith}
 use lib.ListN.{length}
 use borrow.Author.Needs.{needs}
 use Rattle.spans.specs.Memory.{spansOf}

@@ -25,7 +25,7 @@ use denote.RattleType.{owns, flat}
 use denote.Laws.{Is, Are, Ises, Spells, valss}
 use denote.Memory.{mem}
 use denote.Plain.{uint-vals, uint-tells}
-use denote.Builtin.{u8, u16, u64}
+use denote.Builtin.{u8, u16}
 use denote.Ref.{now, ptr, name, ptr-vals, mut-tells}
 use denote.Slice.{slice-vals, shr-slice-tells, shr-slice-lawful}
 use denote.Signature.{plain, typesAt}
