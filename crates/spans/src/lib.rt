@@ -163,7 +163,7 @@ pub fn same_bytes(a: &[u8], b: &[u8]) -> bool
 {
     if a.len() == b.len() {
         let mut i = 0;
-        while 8 <= a.len() - i {
+        while i + 8 <= a.len() {
             if eight_at(a, i) == eight_at(b, i) {
                 i += 8;
             } else {

@@ -16,8 +16,8 @@ abbrev μ-loop : tie.MeasureT-loop
 loop-holds : tie.Need-loop-holds Inv-loop μ-loop
 loop-holds c = alike-start _ _ (c .if1 .taken)
 
-sub-loop : tie.Need-sub-loop Inv-loop μ-loop
-sub-loop c = search needs
+add-loop : tie.Need-add-loop Inv-loop μ-loop
+add-loop c = search needs
 
 eight-at-requires : tie.Need-eight-at-requires Inv-loop μ-loop
 eight-at-requires c κs = search needs
@@ -71,7 +71,7 @@ same-bytes-spec =
     Inv-loop
     μ-loop
     loop-holds
-    sub-loop
+    add-loop
     eight-at-requires
     eight-at-requires-2
     add-i
