@@ -20,7 +20,7 @@ use Rattle.spans.specs.Kinds.{setPaceOf, setStepOf}
 use Rattle.spans.specs.Scanning.{nexting}
 use Rattle.spans.proofs.Bridge.{paced-by}
 use Rattle.byte_set_walk.specs.declared.Paced.the-variants.{Member, Nothing, Done}
-use Rattle.byte_set_walk.specs.declared.Step.{Step}
+use Rattle.byte_set_walk.specs.declared.Stride.{Stride}
 use Rattle.byte_set_walk.specs.Numbers.{pacedNumbers, stepNumbers, refusedNumbers}
 use Rattle.byte_set.proofs.Laws.{setOf, fit, unfit}
 
@@ -35,7 +35,7 @@ module _ (s : Spans) (at : ℕ) where
     unfolding setPaceOf stepSaid stepNumbers pacedNumbers
     pace-live {j} q x y = let z : suc j - 1 ≡ j = omega arith in rw (x, y, paced-by nothing (setOf s) at g p q, add-one j, z)
 
-    pub pace-bad : r ≡ next.Bad → (x : Step) → stepNumbers x ≡ refusedNumbers at refusal.Damaged → stepNumbers x ≡ setPaceOf (setOf s) at g
+    pub pace-bad : r ≡ next.Bad → (x : Stride) → stepNumbers x ≡ refusedNumbers at refusal.Damaged → stepNumbers x ≡ setPaceOf (setOf s) at g
     unfolding setPaceOf stepSaid refusedNumbers pacedNumbers
     pace-bad q x e = e ∙ (rw (paced-by nothing (setOf s) at g p q))
 
@@ -45,17 +45,17 @@ module _ (s : Spans) (at : ℕ) where
 
   -- the tests of a step, in order
   module _ (budget : ℕ) {b : Bool} (p : b ≡ fitting s) where
-    pub step-unfit : b ≡ false → (x : Step) → stepNumbers x ≡ refusedNumbers at refusal.Sizes → stepNumbers x ≡ setStepOf (setOf s) at budget
+    pub step-unfit : b ≡ false → (x : Stride) → stepNumbers x ≡ refusedNumbers at refusal.Sizes → stepNumbers x ≡ setStepOf (setOf s) at budget
     unfolding setStepOf stepping need stepSaid refusedNumbers pacedNumbers
     step-unfit q x e = e ∙ (rw (unfit s p q))
 
     module _ (q : b ≡ true) where
-      pub step-unpaid : budget ≡ 0 → (x : Step) → stepNumbers x ≡ refusedNumbers at refusal.NoBudget → stepNumbers x ≡ setStepOf (setOf s) at budget
+      pub step-unpaid : budget ≡ 0 → (x : Stride) → stepNumbers x ≡ refusedNumbers at refusal.NoBudget → stepNumbers x ≡ setStepOf (setOf s) at budget
       unfolding setStepOf stepping step need stepSaid refusedNumbers pacedNumbers
       step-unpaid z x e = e ∙ (rw (fit s p q, z))
 
       module _ (h : budget ≡ 0 → ⊥) where
-        pub step-beyond : length (s .marks) < at → (x : Step) → stepNumbers x ≡ refusedNumbers at refusal.WalkBeyond → stepNumbers x ≡ setStepOf (setOf s) at budget
+        pub step-beyond : length (s .marks) < at → (x : Stride) → stepNumbers x ≡ refusedNumbers at refusal.WalkBeyond → stepNumbers x ≡ setStepOf (setOf s) at budget
         unfolding setStepOf stepping step need stepSaid refusedNumbers pacedNumbers
         step-beyond l x e = e ∙ (rw (fit s p q, ne-eqb budget 0 h, lt-leb at (length (s .marks)) l))
 
@@ -63,6 +63,6 @@ module _ (s : Spans) (at : ℕ) where
         unfolding setStepOf stepping step need pass pace stepSaid stepNumbers pacedNumbers
         step-done e = rw (fit s p q, ne-eqb budget 0 h, le-leb at (length (s .marks)) (omega arith), eq-eqb at (length (s .marks)) e)
 
-        pub step-pace : at ≤ length (s .marks) → (at ≡ length (s .marks) → ⊥) → {g : ℕ} → g ≡ reachOf (length (s .marks)) at budget → (x : Step) → stepNumbers x ≡ setPaceOf (setOf s) at g → stepNumbers x ≡ setStepOf (setOf s) at budget
+        pub step-pace : at ≤ length (s .marks) → (at ≡ length (s .marks) → ⊥) → {g : ℕ} → g ≡ reachOf (length (s .marks)) at budget → (x : Stride) → stepNumbers x ≡ setPaceOf (setOf s) at g → stepNumbers x ≡ setStepOf (setOf s) at budget
         unfolding setStepOf stepping step need pass pace setPaceOf
         step-pace l n {g} e x d = d ∙ (rw (fit s p q, ne-eqb budget 0 h, le-leb at (length (s .marks)) l, ne-eqb at (length (s .marks)) n, e))

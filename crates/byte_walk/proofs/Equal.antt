@@ -5,7 +5,7 @@ use native.Mathlib.Omega.{arith}
 use Rattle.answers.proofs.Told.{numberOf-injective}
 use Rattle.byte_walk.specs.declared.Paced.{Paced}
 use Rattle.byte_walk.specs.declared.Paced.the-variants.{Pair, Nothing, Done, Refused}
-use Rattle.byte_walk.specs.declared.Step.{Step}
+use Rattle.byte_walk.specs.declared.Stride.{Stride}
 use Rattle.byte_walk.specs.Numbers.{pacedNumbers, stepNumbers}
 
 module _ (w e : ℕ) where
@@ -43,11 +43,11 @@ module _ (w e : ℕ) where
   paced-injective z f (Refused r) (Refused s) q = ap Refused (numberOf-injective r s (ap (λ n. n .refusal) q))
 
 -- a step's numbers tell its walk
-pub walk-of : (s : Step) → stepNumbers s .walk ≡ s .walk .at
+pub walk-of : (s : Stride) → stepNumbers s .walk ≡ s .walk .at
 unfolding stepNumbers
 walk-of s = walk-told (s .walk .at) (s .examined) (s .out)
 
-pub stepNumbers-injective : (a b : Step) → stepNumbers a ≡ stepNumbers b → a ≡ b
+pub stepNumbers-injective : (a b : Stride) → stepNumbers a ≡ stepNumbers b → a ≡ b
 unfolding stepNumbers
 stepNumbers-injective a b q =
     let w : a .walk .at ≡ b .walk .at = sym (walk-of a) ∙ ap (λ n. n .walk) q ∙ walk-of b in

@@ -23,7 +23,7 @@ use Rattle.byte_map.specs.Seeking.{sizedOf}
 use Rattle.byte_map.proofs.Counting.{sized-as}
 use Rattle.byte_map.proofs.Laws.{same-long}
 use Rattle.byte_walk.specs.declared.Paced.the-variants.{Pair, Nothing, Done}
-use Rattle.byte_walk.specs.declared.Step.{Step}
+use Rattle.byte_walk.specs.declared.Stride.{Stride}
 use Rattle.byte_walk.specs.Numbers.{pacedNumbers, refusedNumbers, stepNumbers}
 
 module _ (m : Strings values) (at : ℕ) where
@@ -33,7 +33,7 @@ module _ (m : Strings values) (at : ℕ) where
     unfolding paceOf stepSaid stepNumbers pacedNumbers
     pace-live {j} q x y = let d : suc j - 1 ≡ j = omega arith in rw (paced-by values m at g p q, add-one j, d, x, y)
 
-    pub pace-bad : r ≡ next.Bad → (s : Step) → stepNumbers s ≡ refusedNumbers at Damaged → stepNumbers s ≡ paceOf m at g
+    pub pace-bad : r ≡ next.Bad → (s : Stride) → stepNumbers s ≡ refusedNumbers at Damaged → stepNumbers s ≡ paceOf m at g
     unfolding paceOf stepSaid refusedNumbers pacedNumbers
     pace-bad q s e = e ∙ (rw (paced-by values m at g p q))
 
@@ -43,12 +43,12 @@ module _ (m : Strings values) (at : ℕ) where
 
   -- the tests of a step, in order
   module _ (budget : ℕ) {b : Bool} (p : b ≡ sizedOf maps m) where
-    pub step-unfit : b ≡ false → (s : Step) → stepNumbers s ≡ refusedNumbers at Sizes → stepNumbers s ≡ stepOf m at budget
+    pub step-unfit : b ≡ false → (s : Stride) → stepNumbers s ≡ refusedNumbers at Sizes → stepNumbers s ≡ stepOf m at budget
     unfolding stepOf stepping need stepSaid refusedNumbers pacedNumbers
     step-unfit q s e = e ∙ (rw (sized-as maps m p q))
 
     module _ (q : b ≡ true) where
-      pub step-unpaid : budget ≡ 0 → (s : Step) → stepNumbers s ≡ refusedNumbers at NoBudget → stepNumbers s ≡ stepOf m at budget
+      pub step-unpaid : budget ≡ 0 → (s : Stride) → stepNumbers s ≡ refusedNumbers at NoBudget → stepNumbers s ≡ stepOf m at budget
       unfolding stepOf stepping step need stepSaid refusedNumbers pacedNumbers
       step-unpaid z s e = e ∙ (rw (sized-as maps m p q, z))
 
@@ -57,7 +57,7 @@ module _ (m : Strings values) (at : ℕ) where
       pace-fits l e = let (i, j, k) = same-long m p q in (omega (arith, reach-high (length (m .spans .marks)) at budget), i, j, k)
 
       module _ (h : budget ≡ 0 → ⊥) where
-        pub step-beyond : length (m .spans .marks) < at → (s : Step) → stepNumbers s ≡ refusedNumbers at WalkBeyond → stepNumbers s ≡ stepOf m at budget
+        pub step-beyond : length (m .spans .marks) < at → (s : Stride) → stepNumbers s ≡ refusedNumbers at WalkBeyond → stepNumbers s ≡ stepOf m at budget
         unfolding stepOf stepping step need stepSaid refusedNumbers pacedNumbers
         step-beyond l s e = e ∙ (rw (sized-as maps m p q, ne-eqb budget 0 h, lt-leb at (length (m .spans .marks)) l))
 
@@ -65,6 +65,6 @@ module _ (m : Strings values) (at : ℕ) where
         unfolding stepOf stepping step need pass pace stepSaid stepNumbers pacedNumbers
         step-done e = rw (sized-as maps m p q, ne-eqb budget 0 h, le-leb at (length (m .spans .marks)) (omega arith), eq-eqb at (length (m .spans .marks)) e)
 
-        pub step-pace : at ≤ length (m .spans .marks) → (at ≡ length (m .spans .marks) → ⊥) → {g : ℕ} → g ≡ reachOf (length (m .spans .marks)) at budget → (s : Step) → stepNumbers s ≡ paceOf m at g → stepNumbers s ≡ stepOf m at budget
+        pub step-pace : at ≤ length (m .spans .marks) → (at ≡ length (m .spans .marks) → ⊥) → {g : ℕ} → g ≡ reachOf (length (m .spans .marks)) at budget → (s : Stride) → stepNumbers s ≡ paceOf m at g → stepNumbers s ≡ stepOf m at budget
         unfolding stepOf stepping step need pass pace paceOf
         step-pace l n {g} e s d = d ∙ (rw (sized-as maps m p q, ne-eqb budget 0 h, le-leb at (length (m .spans .marks)) l, ne-eqb at (length (m .spans .marks)) n, e))

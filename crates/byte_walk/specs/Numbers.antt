@@ -5,7 +5,7 @@ use Rattle.answers.specs.declared.Refusal.{Refusal}
 use Rattle.answers.specs.declared.Numbers.{Numbers}
 use Rattle.byte_walk.specs.declared.Paced.{Paced}
 use Rattle.byte_walk.specs.declared.Paced.the-variants.{Pair, Nothing, Done, Refused}
-use Rattle.byte_walk.specs.declared.Step.{Step}
+use Rattle.byte_walk.specs.declared.Stride.{Stride}
 
 -- By what the step hands out, with the walk and the examined number: case 14, a pair, 15, nothing, 16, done, or a refusal.
 unfoldable pub pacedNumbers : ℕ → ℕ → Paced → Numbers
@@ -15,7 +15,7 @@ pacedNumbers w e Done = record { refusal = 0; case = 16; key = 0; value = 0; slo
 pacedNumbers w e (Refused r) = record { refusal = numberOf r; case = 0; key = 0; value = 0; slot = 0; examined = e; walk = w; offset = 0; length = 0 }
 
 -- A step's numbers: its walk and its examined number are told whatever it hands out.
-unfoldable pub stepNumbers : Step → Numbers
+unfoldable pub stepNumbers : Stride → Numbers
 stepNumbers s = pacedNumbers (s .walk .at) (s .examined) (s .out)
 
 -- The numbers of a refused step of a walk from w.

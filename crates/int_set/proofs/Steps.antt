@@ -18,7 +18,7 @@ use Rattle.ints.specs.Memory.{fitting}
 use Rattle.ints.specs.Scanning.{nexting}
 use Rattle.ints.proofs.Bridge.{paced-by}
 use Rattle.int_set.specs.declared.Paced.the-variants.{Member, Nothing, Done}
-use Rattle.int_set.specs.declared.Step.{Step}
+use Rattle.int_set.specs.declared.Stride.{Stride}
 use Rattle.int_set.specs.Memory.{memory}
 use Rattle.answers.specs.Said.{keyHanded, stepSaid}
 use Rattle.int_set.specs.Numbers.{pacedNumbers, stepNumbers}
@@ -32,7 +32,7 @@ module _ (marks keys : List ℕ) (at : ℕ) where
     unfolding paceOf stepSaid stepNumbers pacedNumbers
     pace-live {j} q = rw (paced-by nothing (memory marks keys) at g p q, add-one j)
 
-    pub pace-bad : r ≡ next.Bad → (s : Step) → stepNumbers s ≡ stepSaid keyHanded at (no 5) → stepNumbers s ≡ paceOf (memory marks keys) at g
+    pub pace-bad : r ≡ next.Bad → (s : Stride) → stepNumbers s ≡ stepSaid keyHanded at (no 5) → stepNumbers s ≡ paceOf (memory marks keys) at g
     unfolding paceOf
     pace-bad q s e = e ∙ (rw (paced-by nothing (memory marks keys) at g p q))
 
@@ -42,12 +42,12 @@ module _ (marks keys : List ℕ) (at : ℕ) where
 
   -- the tests of a step, in order
   module _ (budget : ℕ) {b : Bool} (p : b ≡ fitting marks keys) where
-    pub step-unfit : b ≡ false → (s : Step) → stepNumbers s ≡ stepSaid keyHanded at (no 1) → stepNumbers s ≡ stepOf (memory marks keys) at budget
+    pub step-unfit : b ≡ false → (s : Stride) → stepNumbers s ≡ stepSaid keyHanded at (no 1) → stepNumbers s ≡ stepOf (memory marks keys) at budget
     unfolding stepOf stepping need
     step-unfit q s e = e ∙ (rw (unfit marks keys p q))
 
     module _ (q : b ≡ true) where
-      pub step-unpaid : budget ≡ 0 → (s : Step) → stepNumbers s ≡ stepSaid keyHanded at (no 3) → stepNumbers s ≡ stepOf (memory marks keys) at budget
+      pub step-unpaid : budget ≡ 0 → (s : Stride) → stepNumbers s ≡ stepSaid keyHanded at (no 3) → stepNumbers s ≡ stepOf (memory marks keys) at budget
       unfolding stepOf stepping step need
       step-unpaid z s e = e ∙ (rw (fit marks keys p q, z))
 
@@ -56,7 +56,7 @@ module _ (marks keys : List ℕ) (at : ℕ) where
       pace-fits l e = (omega (arith, reach-high (length marks) at budget), same-long marks keys p q)
 
       module _ (h : budget ≡ 0 → ⊥) where
-        pub step-beyond : length marks < at → (s : Step) → stepNumbers s ≡ stepSaid keyHanded at (no 4) → stepNumbers s ≡ stepOf (memory marks keys) at budget
+        pub step-beyond : length marks < at → (s : Stride) → stepNumbers s ≡ stepSaid keyHanded at (no 4) → stepNumbers s ≡ stepOf (memory marks keys) at budget
         unfolding stepOf stepping step need
         step-beyond l s e = e ∙ (rw (fit marks keys p q, ne-eqb budget 0 h, lt-leb at (length marks) l))
 
@@ -64,6 +64,6 @@ module _ (marks keys : List ℕ) (at : ℕ) where
         unfolding stepOf stepping step need pass pace stepSaid stepNumbers pacedNumbers
         step-done e = rw (fit marks keys p q, ne-eqb budget 0 h, le-leb at (length marks) (omega arith), eq-eqb at (length marks) e)
 
-        pub step-pace : at ≤ length marks → (at ≡ length marks → ⊥) → {g : ℕ} → g ≡ reachOf (length marks) at budget → (s : Step) → stepNumbers s ≡ paceOf (memory marks keys) at g → stepNumbers s ≡ stepOf (memory marks keys) at budget
+        pub step-pace : at ≤ length marks → (at ≡ length marks → ⊥) → {g : ℕ} → g ≡ reachOf (length marks) at budget → (s : Stride) → stepNumbers s ≡ paceOf (memory marks keys) at g → stepNumbers s ≡ stepOf (memory marks keys) at budget
         unfolding stepOf stepping step need pass pace paceOf
         step-pace l n {g} e s d = d ∙ (rw (fit marks keys p q, ne-eqb budget 0 h, le-leb at (length marks) l, ne-eqb at (length marks) n, e))

@@ -194,17 +194,17 @@ pub enum Paced {
 }
 
 // The answer of a step: the walk moved on, what it hands out, and the examined number.
-pub struct Step {
+pub struct Stride {
     pub walk: Walk,
     pub out: Paced,
     pub examined: usize,
 }
 
 // A refused step: the walk as it came, and 0 examined.
-fn refused(at: usize, why: Refusal) -> Step
+fn refused(at: usize, why: Refusal) -> Stride
     ensures { λ r. ⌜ stepNumbers r ≡ stepSaid keyHanded at (no (numberOf why)) ⌝ }
 {
-    Step {
+    Stride {
         walk: Walk { at },
         out: Paced::Refused(why),
         examined: 0,
@@ -212,19 +212,19 @@ fn refused(at: usize, why: Refusal) -> Step
 }
 
 // The slots of a step: up to the first live one, within so many.
-fn pace(marks: &[u8], keys: &[u64], at: usize, slots: usize) -> Step
+fn pace(marks: &[u8], keys: &[u64], at: usize, slots: usize) -> Stride
     requires { ⌜ (at + slots ≤ length (now marks)) × (length (now keys) ≡ length (now marks)) ⌝ }
     ensures { λ r. ⌜ stepNumbers r ≡ paceOf (memory (now (marks .entry)) (now (keys .entry))) at slots ⌝ }
 {
     let next = ints::next_live(marks, at, at + slots);
     match next {
-        Next::Live(slot) => Step {
+        Next::Live(slot) => Stride {
             walk: Walk { at: slot + 1 },
             out: Paced::Member(keys[slot]),
             examined: slot + 1 - at,
         },
         Next::Bad => refused(at, Refusal::Damaged),
-        Next::Nothing => Step {
+        Next::Nothing => Stride {
             walk: Walk { at: at + slots },
             out: Paced::Nothing,
             examined: slots,
@@ -241,7 +241,7 @@ impl Walk {
     }
 
     // One step with a budget of slots: the key of the first live slot within it, nothing, or done.
-    pub fn step(self, marks: &[u8], keys: &[u64], budget: u64) -> Step
+    pub fn step(self, marks: &[u8], keys: &[u64], budget: u64) -> Stride
         ensures { λ r. ⌜ stepNumbers r ≡ stepOf (memory (now (marks .entry)) (now (keys .entry))) (self .at) budget ⌝ }
     {
         let at = self.at;
@@ -253,7 +253,7 @@ impl Walk {
                 return refused(at, Refusal::WalkBeyond);
             }
             if at == marks.len() {
-                return Step {
+                return Stride {
                     walk: Walk { at },
                     out: Paced::Done,
                     examined: 0,
@@ -265,7 +265,7 @@ impl Walk {
     }
 
     // One step of a lent walk, which moves on in its place.
-    pub fn step_on(&mut self, marks: &[u8], keys: &[u64], budget: u64) -> Step
+    pub fn step_on(&mut self, marks: &[u8], keys: &[u64], budget: u64) -> Stride
         ensures { λ r. ⌜ told (stepNumbers r) (now (self .exit) .at) ≡ movedOn (stepOf (memory (now (marks .entry)) (now (keys .entry))) (now (self .entry) .at) budget) ⌝ }
     {
         let r = self.step(marks, keys, budget);

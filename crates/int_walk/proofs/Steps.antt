@@ -21,7 +21,7 @@ use Rattle.ints.specs.Seeking.{fittingMap}
 use Rattle.ints.proofs.Bridge.{paced-by}
 use Rattle.ints.proofs.Seeking.{same-long}
 use Rattle.int_walk.specs.declared.Paced.the-variants.{Pair, Nothing, Done}
-use Rattle.int_walk.specs.declared.Step.{Step}
+use Rattle.int_walk.specs.declared.Stride.{Stride}
 use Rattle.int_walk.specs.Calls.{paceOf, stepOf}
 use Rattle.int_walk.specs.Numbers.{pacedNumbers, stepNumbers}
 use Rattle.int_map.proofs.Laws.{fit, unfit}
@@ -33,7 +33,7 @@ module _ (marks keys vs : List ℕ) (at : ℕ) where
     unfolding paceOf stepSaid stepNumbers pacedNumbers
     pace-live {j} q = rw (paced-by values (memory marks keys vs) at g p q, add-one j)
 
-    pub pace-bad : r ≡ next.Bad → (s : Step) → stepNumbers s ≡ stepSaid pairHanded at (no 5) → stepNumbers s ≡ paceOf (memory marks keys vs) at g
+    pub pace-bad : r ≡ next.Bad → (s : Stride) → stepNumbers s ≡ stepSaid pairHanded at (no 5) → stepNumbers s ≡ paceOf (memory marks keys vs) at g
     unfolding paceOf
     pace-bad q s e = e ∙ (rw (paced-by values (memory marks keys vs) at g p q))
 
@@ -43,12 +43,12 @@ module _ (marks keys vs : List ℕ) (at : ℕ) where
 
   -- the tests of a step, in order
   module _ (budget : ℕ) {b : Bool} (p : b ≡ fittingMap marks keys vs) where
-    pub step-unfit : b ≡ false → (s : Step) → stepNumbers s ≡ stepSaid pairHanded at (no 1) → stepNumbers s ≡ stepOf (memory marks keys vs) at budget
+    pub step-unfit : b ≡ false → (s : Stride) → stepNumbers s ≡ stepSaid pairHanded at (no 1) → stepNumbers s ≡ stepOf (memory marks keys vs) at budget
     unfolding stepOf stepping need
     step-unfit q s e = e ∙ (rw (unfit marks keys vs p q))
 
     module _ (q : b ≡ true) where
-      pub step-unpaid : budget ≡ 0 → (s : Step) → stepNumbers s ≡ stepSaid pairHanded at (no 3) → stepNumbers s ≡ stepOf (memory marks keys vs) at budget
+      pub step-unpaid : budget ≡ 0 → (s : Stride) → stepNumbers s ≡ stepSaid pairHanded at (no 3) → stepNumbers s ≡ stepOf (memory marks keys vs) at budget
       unfolding stepOf stepping step need
       step-unpaid z s e = e ∙ (rw (fit marks keys vs p q, z))
 
@@ -57,7 +57,7 @@ module _ (marks keys vs : List ℕ) (at : ℕ) where
       pace-fits l e = let (i, j) = same-long marks keys vs p q in (omega (arith, reach-high (length marks) at budget), i, j)
 
       module _ (h : budget ≡ 0 → ⊥) where
-        pub step-beyond : length marks < at → (s : Step) → stepNumbers s ≡ stepSaid pairHanded at (no 4) → stepNumbers s ≡ stepOf (memory marks keys vs) at budget
+        pub step-beyond : length marks < at → (s : Stride) → stepNumbers s ≡ stepSaid pairHanded at (no 4) → stepNumbers s ≡ stepOf (memory marks keys vs) at budget
         unfolding stepOf stepping step need
         step-beyond l s e = e ∙ (rw (fit marks keys vs p q, ne-eqb budget 0 h, lt-leb at (length marks) l))
 
@@ -65,6 +65,6 @@ module _ (marks keys vs : List ℕ) (at : ℕ) where
         unfolding stepOf stepping step need pass pace stepSaid stepNumbers pacedNumbers
         step-done e = rw (fit marks keys vs p q, ne-eqb budget 0 h, le-leb at (length marks) (omega arith), eq-eqb at (length marks) e)
 
-        pub step-pace : at < length marks → {g : ℕ} → g ≡ reachOf (length marks) at budget → (s : Step) → stepNumbers s ≡ paceOf (memory marks keys vs) at g → stepNumbers s ≡ stepOf (memory marks keys vs) at budget
+        pub step-pace : at < length marks → {g : ℕ} → g ≡ reachOf (length marks) at budget → (s : Stride) → stepNumbers s ≡ paceOf (memory marks keys vs) at g → stepNumbers s ≡ stepOf (memory marks keys vs) at budget
         unfolding stepOf stepping step need pass pace paceOf
         step-pace l {g} e s d = d ∙ (rw (fit marks keys vs p q, ne-eqb budget 0 h, le-leb at (length marks) (omega arith), ne-eqb at (length marks) (λ z. omega arith), e))

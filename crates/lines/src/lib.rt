@@ -180,7 +180,7 @@ impl Reading {
     }
 
     // What the line asks for, if it ends here.
-    pub fn order(self) -> Order
+    pub fn ordered(self) -> Order
         ensures { λ r. ⌜ r ≡ orderOf self ⌝ }
     {
         match self {

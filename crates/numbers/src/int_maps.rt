@@ -5,10 +5,10 @@ use crate::walk_numbers;
 use answers::Numbers;
 use answers::number;
 use int_walk::Paced;
-use int_walk::Step;
+use int_walk::Stride;
 
 // The numbers of a step of a walk.
-pub fn step_numbers(s: Step) -> Numbers
+pub fn step_numbers(s: Stride) -> Numbers
     ensures { λ n. ⌜ n ≡ stepNumbers s ⌝ }
 {
     let at = s.walk.at;

@@ -164,7 +164,7 @@ fn end_line(marks: &mut [u8], keys: &mut [u64], values: &mut [u64], s: Session) 
     ensures { λ r. ⌜ r .size ≤ 1024 ⌝ }
 {
     let reading = s.reading;
-    let order = reading.order();
+    let order = reading.ordered();
     let size = s.size;
     if size == 0 {
         return begin(order);

@@ -5,8 +5,8 @@ use borrow.Author.Needs.{needs}
 use Rattle.slots.proofs.end_line.Statement.{statement}
 use Rattle.slots.proofs.end_line.Tie as tie
 
-order-requires : tie.Need-order-requires
-order-requires c κs = search needs
+ordered-requires : tie.Need-ordered-requires
+ordered-requires c κs = search needs
 
 begin-requires : tie.Need-begin-requires
 begin-requires c κs = search needs
@@ -54,7 +54,7 @@ pub end-line-spec : {M : Type 1} → statement M
 end-line-spec =
     tie.close
     (tie.spec
-    order-requires
+    ordered-requires
     begin-requires
     returns
     slice-relend-prefix-obey

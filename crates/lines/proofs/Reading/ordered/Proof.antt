@@ -1,9 +1,9 @@
--- `lines::Reading::order` meets its contract: each case of the state is a clause of `orderOf`.
+-- `lines::Reading::ordered` meets its contract: each case of the state is a clause of `orderOf`.
 -- Assumes nothing.
 use borrow.Author.Tests.{eq-eqb, ne-eqb}
 use borrow.Author.Needs.{needs}
-use Rattle.lines.proofs.Reading.order.Statement.{statement}
-use Rattle.lines.proofs.Reading.order.Tie as tie
+use Rattle.lines.proofs.Reading.ordered.Statement.{statement}
+use Rattle.lines.proofs.Reading.ordered.Tie as tie
 
 enum-told : tie.Need-enum-told
 enum-told c = search needs
@@ -53,8 +53,8 @@ returns-6 c = rw (c .before .before .self4 .given .1, c .counted .ensures)
 returns-7 : tie.Need-returns-7
 returns-7 c = search needs
 
-pub order-spec : {M : Type 1} → statement M
-order-spec =
+pub ordered-spec : {M : Type 1} → statement M
+ordered-spec =
     tie.close
     (tie.spec
     enum-told
