@@ -131,3 +131,14 @@ only-named M P A T w x (own c) p d = own-kept M P A T p (w x) c d
 only-named M P A T w x (copies y) p d = all-kept M P A T p (w x) (w y) (copy M (w x) (w y)) d
 only-named M P A T w x (unions y) p d = united M P A T p (w x) (w y) (union M (w x) (w y)) refl d
 only-named M P A T w x (steps a b) p d = refl
+
+module _ {K W : Type 0} (M : Store K W) (P : Places M) (p : P .Place) (m : M .State) where
+  -- A call that only reads names no place.
+  pub reading-names-none : (n s : ℕ) (k : K) → (own-names M P p m capacities ≡ false) × (own-names M P p m lens ≡ false) × (own-names M P p m empties ≡ false) × (own-names M P p m (reserves n) ≡ false) × (own-names M P p m (gets k) ≡ false) × (own-names M P p m (contains-keys k) ≡ false) × (own-names M P p m (entries k) ≡ false) × (own-names M P p m (occupied-gets s k) ≡ false)
+  unfolding own-names
+  reading-names-none n s k = (refl, refl, refl, refl, refl, refl, refl, refl)
+
+  -- Nor does a refused call, or a remove of an absent key.
+  pub refused-names-none : (n e : ℕ) (k : K) → (insert-names M P p m k (no n) ≡ false) × (remove-names M P p m (no n) ≡ false) × (remove-names M P p m (ok (absent e)) ≡ false) × (accepted {A = ℕ} (no n) true ≡ false)
+  unfolding insert-names remove-names accepted
+  refused-names-none n e k = (refl, refl, refl, refl)
