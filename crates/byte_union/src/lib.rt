@@ -153,7 +153,6 @@ fn room(
     let Surveyed::Used(_) = other else {
         return Planned::Refused(Refusal::Damaged);
     };
-    let live = lives(marks);
     let needed = lacks(
         marks,
         offsets,
@@ -164,7 +163,7 @@ fn room(
         right_lengths,
         right_arena,
     );
-    if needed.slots <= marks.len() - live {
+    if needed.slots <= marks.len() - lives(marks) {
         if needed.bytes <= arena.len() - used {
             return Planned::Go(used);
         }
@@ -316,8 +315,9 @@ fn store_all(
     }
 }
 
-// Puts the right's pairs into the left, where its slots and bytes suffice for all; the right stays as it was.
-pub fn union_prefer_right(
+// Does what the plan says: all of the right's pairs go into the left, or none.
+fn carry_out(
+    way: Planned,
     marks: &mut [u8],
     offsets: &mut [u16],
     lengths: &mut [u8],
@@ -329,21 +329,10 @@ pub fn union_prefer_right(
     right_values: &[u64],
     right_arena: &[u8],
 ) -> Outcome
+    requires { ⌜ planned way ≡ planOf (mapMemory (now marks) (now offsets) (now lengths) (now values) (now arena)) (mapMemory (now «right_marks») (now «right_offsets») (now «right_lengths») (now «right_values») (now «right_arena»)) ⌝ }
     ensures { λ r. ⌜ told (outcomeNumbers r) (mapMemory (now (marks .exit)) (now (offsets .exit)) (now (lengths .exit)) (now (values .exit)) (now (arena .exit))) ≡ unionOf maps (mapMemory (now (marks .entry)) (now (offsets .entry)) (now (lengths .entry)) (now (values .entry)) (now (arena .entry))) (mapMemory (now («right_marks» .entry)) (now («right_offsets» .entry)) (now («right_lengths» .entry)) (now («right_values» .entry)) (now («right_arena» .entry))) ⌝ }
 {
-    let planned = plan(
-        marks,
-        offsets,
-        lengths,
-        values,
-        arena,
-        right_marks,
-        right_offsets,
-        right_lengths,
-        right_values,
-        right_arena,
-    );
-    match planned {
+    match way {
         Planned::Go(used) => {
             store_all(
                 marks,
@@ -362,4 +351,45 @@ pub fn union_prefer_right(
         }
         Planned::Refused(r) => Outcome::Refused(r),
     }
+}
+
+// Puts the right's pairs into the left, where its slots and bytes suffice for all; the right stays as it was.
+pub fn union_prefer_right(
+    marks: &mut [u8],
+    offsets: &mut [u16],
+    lengths: &mut [u8],
+    values: &mut [u64],
+    arena: &mut [u8],
+    right_marks: &[u8],
+    right_offsets: &[u16],
+    right_lengths: &[u8],
+    right_values: &[u64],
+    right_arena: &[u8],
+) -> Outcome
+    ensures { λ r. ⌜ told (outcomeNumbers r) (mapMemory (now (marks .exit)) (now (offsets .exit)) (now (lengths .exit)) (now (values .exit)) (now (arena .exit))) ≡ unionOf maps (mapMemory (now (marks .entry)) (now (offsets .entry)) (now (lengths .entry)) (now (values .entry)) (now (arena .entry))) (mapMemory (now («right_marks» .entry)) (now («right_offsets» .entry)) (now («right_lengths» .entry)) (now («right_values» .entry)) (now («right_arena» .entry))) ⌝ }
+{
+    carry_out(
+        plan(
+            marks,
+            offsets,
+            lengths,
+            values,
+            arena,
+            right_marks,
+            right_offsets,
+            right_lengths,
+            right_values,
+            right_arena,
+        ),
+        marks,
+        offsets,
+        lengths,
+        values,
+        arena,
+        right_marks,
+        right_offsets,
+        right_lengths,
+        right_values,
+        right_arena,
+    )
 }
