@@ -2,13 +2,17 @@
 -- and equal answers of the home slot. Assumes nothing.
 use mathlib.Core.Path.{_≡_, refl, ap}
 use mathlib.Core.List.{[], _∷_}
+use mathlib.Core.Bool.{false}
 use Prim.Native.Nat.{ℕ, _-_, _≤_}
 use native.Mathlib.Omega.{arith}
+use borrow.Author.Tests.{eqb-false}
+use lib.Dec.{eqb}
 use lib.ListN.{getD}
 use Rattle.answers.specs.declared.Refusal.{Refusal}
 use Rattle.answers.specs.declared.Refusal.the-variants.{Sizes, LongKey, NoBudget, WalkBeyond, Damaged, BadHandle, NoSlot, NoBytes}
 use Rattle.answers.specs.declared.Homed.{Homed}
 use Rattle.answers.specs.declared.Homed.the-variants.{At, Refused}
+use Rattle.answers.specs.declared.Numbers.{Numbers}
 use Rattle.answers.specs.Refusals.{numberOf}
 use Rattle.answers.specs.Numbers.{homedNumbers}
 
@@ -43,11 +47,15 @@ numberOf-range NoBytes = omega arith
 pub numberOf-injective : (r s : Refusal) → numberOf r ≡ numberOf s → r ≡ s
 numberOf-injective r s e = cc (back r, back s, ap refusalOf e)
 
+-- Equal numbers have equal cases.
+pub other-case : {A : Type 0} {m n : Numbers} → m ≡ n → eqb (m .case) (n .case) ≡ false → A
+other-case {A} {m} {n} q e = absurd (eqb-false (m .case) (n .case) e (ap (λ x. x .case) q))
+
 -- Equal numbers are equal answers of the home slot.
 pub homedNumbers-injective : (a b : Homed) → homedNumbers a ≡ homedNumbers b → a ≡ b
 homedNumbers-injective (At s) (At t) e = ap At (ap (λ n. n .slot) e)
-homedNumbers-injective (At s) (Refused r) e = let z : ⊥ = omega (arith, ap (λ n. n .case) e) in absurd z
-homedNumbers-injective (Refused r) (At s) e = let z : ⊥ = omega (arith, ap (λ n. n .case) e) in absurd z
+homedNumbers-injective (At s) (Refused r) e = other-case e refl
+homedNumbers-injective (Refused r) (At s) e = other-case e refl
 homedNumbers-injective (Refused r) (Refused s) e = ap Refused (numberOf-injective r s (ap (λ n. n .refusal) e))
 
 -- The home slot is told as case 1 with the slot.

@@ -9,7 +9,7 @@ use lib.Dec.{ltb, eqb}
 use lib.ListN.{length}
 use Rattle.model.specs.Path.{Find, hit, miss, hurt, at}
 use Rattle.model.specs.Store.{path}
-use Rattle.model.proofs.Cases.{by-bool}
+use Rattle.model.proofs.Cases.{by-bool, clash}
 use Rattle.model.proofs.Path.{at-below, hit-at}
 use Rattle.digest.specs.Home.{homeOf, keyFits, keyLimit}
 use Rattle.digest.proofs.Bounds.{home-below}
@@ -31,9 +31,6 @@ use Rattle.spans.proofs.Sizes.{fitting-says}
 use Rattle.spans.proofs.Bridge.{path-is}
 use Rattle.spans.proofs.Held.{live-says, unharmed-says}
 use Rattle.arena.specs.Needs.{Aligned, Fillable, Freeable}
-
-clash : {A : Type 0} → _≡_ {A = ℕ} 0 1 → A
-clash e = absurd (omega arith)
 
 placed-free : {i e u : ℕ} (v : ℕ) (room : Bool) (x : Probed) → placedBy v room x ≡ placed.Free i e u → (x ≡ probed.Free i e) × (room ≡ true) × (u ≡ v)
 unfolding placedBy

@@ -1,12 +1,11 @@
 -- What the union tells and leaves by its plan.
 use Prim.Native.Nat.{ℕ, _≤_}
 use mathlib.Core.Path.{_≡_, refl, sym, ap}
-use native.Mathlib.Omega.{arith}
 use borrow.Author.Tests.{eqb-true}
 use lib.Dec.{eqb}
 use lib.ListN.{length}
 use Rattle.model.specs.Calls.{Or, no, ok, give, union, acted, after-union}
-use Rattle.model.proofs.Cases.{both}
+use Rattle.model.proofs.Cases.{both, clash}
 use Rattle.model.proofs.Accepted.{need-ok}
 use Rattle.model.proofs.Running.{union-roomy}
 use Rattle.answers.specs.declared.Refusal.{Refusal}
@@ -25,9 +24,6 @@ use Rattle.byte_union.specs.declared.Planned.the-variants.{Go, Refused}
 use Rattle.byte_union.specs.Needs.{planned, planOf}
 use Rattle.byte_union.specs.Stores.{Ready, pairsOf, allStored}
 use Rattle.byte_union.proofs.Storing.{steady}
-
-clash : {A : Type 0} → _≡_ {A = ℕ} 0 1 → A
-clash e = absurd (omega arith)
 
 -- an answer by the value given in its place
 give-ok : {A : Type 0} (v u : ℕ) (x : Or A) → ok u ≡ give v x → (a : A) × (x ≡ ok a) × (u ≡ v)

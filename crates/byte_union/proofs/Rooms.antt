@@ -9,7 +9,7 @@ use borrow.Author.Tests.{le-leb, lt-leb, ne-eqb}
 use lib.ListN.{length, getD}
 use Rattle.model.specs.Slots.{weigh, hurts, total, count, damaged}
 use Rattle.model.specs.Calls.{need}
-use Rattle.model.proofs.Cases.{by-bool, by-lt}
+use Rattle.model.proofs.Cases.{by-bool, by-lt, clash}
 use Rattle.answers.specs.declared.Refusal.the-variants.{Damaged, NoSlot, NoBytes}
 use Rattle.kinds.specs.Marks.{cell, counted}
 use Rattle.kinds.proofs.Scanning.{cell-bad, counted-low}
@@ -37,7 +37,7 @@ cell-counts (suc (suc (suc m))) k = rw (ne-eqb (suc (suc (suc m))) 1 (omega arit
 whole-mark : (s : Spans) (i : ℕ) → hurts (bare s i) ≡ false → markAt s i ≡ getD (s .marks) i 0
 unfolding hurts
 whole-mark s i h = by-lt 2 (markAt s i)
-    (λ l e. let z : true ≡ false = rw (slot-cell s (λ j. tt {0}) i, cell-bad (markAt s i) (keyAt s i) (tt {0}) l) at h in let y : _≡_ {A = ℕ} 0 1 = cc in absurd (omega arith))
+    (λ l e. let z : true ≡ false = rw (slot-cell s (λ j. tt {0}) i, cell-bad (markAt s i) (keyAt s i) (tt {0}) l) at h in clash cc)
     (λ l e. mark-raw s i l)
 
 -- so where none is damaged, the marks count the live slots
@@ -45,7 +45,7 @@ marks-count : (s : Spans) (n : ℕ) → damaged (bare s) n ≡ false → count (
 unfolding total damaged livesOf
 marks-count s zero h = refl
 marks-count s (suc n) h = by-bool (hurts (bare s n))
-    (λ e. let z : true ≡ false = rw e at h in let y : _≡_ {A = ℕ} 0 1 = cc in absurd (omega arith))
+    (λ e. let z : true ≡ false = rw e at h in clash cc)
     (λ e. rw (marks-count s n (rw e at h), slot-cell s (λ j. tt {0}) n, cell-counts (markAt s n) (keyAt s n), whole-mark s n e))
 
 -- the count's state: so many of the first i marks are 1

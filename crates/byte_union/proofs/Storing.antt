@@ -12,7 +12,7 @@ use Rattle.model.specs.Path.{Find, hit, miss, hurt}
 use Rattle.model.specs.Store.{path, slotAt, used}
 use Rattle.model.specs.Calls.{ruleBy, rule}
 use Rattle.model.specs.Lawful.{Steady}
-use Rattle.model.proofs.Cases.{by-bool, by-lt, both}
+use Rattle.model.proofs.Cases.{by-bool, by-lt, both, clash}
 use Rattle.model.proofs.Running.{bytes-there, free-slot}
 use Rattle.digest.specs.Home.{homeOf}
 use Rattle.answers.specs.declared.Refusal.{Refusal}
@@ -34,9 +34,6 @@ use Rattle.arena.specs.Needs.{Fillable}
 use Rattle.byte_union.specs.Stores.{Storable}
 use Rattle.byte_union.proofs.Needing.{probed-path}
 use Rattle.byte_union.proofs.Plans.{few-slots}
-
-clash : {A : Type 0} → _≡_ {A = ℕ} 0 1 → A
-clash e = absurd (omega arith)
 
 -- Byte maps are steady.
 pub steady : Steady maps

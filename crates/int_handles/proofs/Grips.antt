@@ -7,7 +7,7 @@ use native.Mathlib.Omega.{arith}
 use borrow.Author.Tests.{lt-ltb, le-ltb}
 use lib.ListN.{length, getD, set}
 use Rattle.model.specs.Calls.{Or, no, ok, need, pass, gripOn, grip, occupied-get, after-set, occupied-remove, after-drop, acted}
-use Rattle.model.proofs.Cases.{by-bool, by-lt}
+use Rattle.model.proofs.Cases.{by-bool, by-lt, clash}
 use Rattle.answers.specs.declared.Refusal.{Refusal}
 use Rattle.answers.specs.declared.Refusal.the-variants.{Sizes, BadHandle}
 use Rattle.answers.specs.declared.Numbers.{Numbers}
@@ -29,10 +29,6 @@ use Rattle.kinds.proofs.Told.{said, left, retold}
 use Rattle.answers.specs.Said.{heldSaid, swappedSaid, takenSaid, takenEntrySaid}
 use Rattle.int_handles.specs.Numbers.{heldNumbers, swappedNumbers, takenNumbers, takenEntryNumbers}
 use Rattle.int_handles.specs.Calls.{getOf, setOf, removeOf, removeEntryOf}
-
--- two answers that cannot be equal
-clash : {A : Type 0} → _≡_ {A = ℕ} 0 1 → A
-clash e = absurd (omega arith)
 
 -- a mark of 0 or 2 is no good handle's
 pub idle : (mark a v k : ℕ) → mark ≤ 2 → (mark ≡ 1 → ⊥) → gripOn maps k (cell mark a v) ≡ no 6

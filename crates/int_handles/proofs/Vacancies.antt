@@ -10,7 +10,7 @@ use lib.ListN.{length, getD, set}
 use Rattle.model.specs.Path.{Find, hit, miss, hurt}
 use Rattle.model.specs.Store.{path, slotAt, used}
 use Rattle.model.specs.Calls.{Or, no, ok, need, pass, give, acted, spotBy, entry, goodFor, vacancy, vacant-insert, after-fill}
-use Rattle.model.proofs.Cases.{by-bool, by-eq}
+use Rattle.model.proofs.Cases.{by-bool, by-eq, clash}
 use Rattle.digest.specs.Home.{homeOfWord}
 use Rattle.answers.specs.declared.Refusal.{Refusal}
 use Rattle.answers.specs.declared.Refusal.the-variants.{BadHandle}
@@ -39,10 +39,6 @@ goodOf s (probed.Hit x e) = no 6
 goodOf s (probed.Free x e) = need (eqb s x) 6 (ok tt)
 goodOf s (probed.Full e) = no 6
 goodOf s (probed.Refused r) = no (numberOf r)
-
--- two answers that cannot be equal
-clash : {A : Type 0} → _≡_ {A = ℕ} 0 1 → A
-clash e = absurd (omega arith)
 
 module _ (m : Cells values) (s k : ℕ) where
   good-along : (x : Find ℕ) → goodFor maps s (spotBy maps m k x) ≡ goodOf s (along (length (m .marks)) (homeOfWord 0 (length (m .marks)) k) x)

@@ -9,7 +9,7 @@ use lib.ListN.{length}
 use Rattle.model.specs.Slots.{Slot, never, freed, bad, live, Table, weigh, total}
 use Rattle.model.specs.Store.{used}
 use Rattle.model.specs.Calls.{Or, no, ok, need, lacking, needs, ruined, union, acted, after-union}
-use Rattle.model.proofs.Cases.{by-bool}
+use Rattle.model.proofs.Cases.{by-bool, clash}
 use Rattle.answers.specs.declared.Refusal.{Refusal}
 use Rattle.answers.specs.declared.Refusal.the-variants.{Sizes, Damaged, NoSlot}
 use Rattle.answers.specs.declared.Outcome.{Outcome}
@@ -28,10 +28,6 @@ use Rattle.ints.specs.Maps.{maps}
 use Rattle.kinds.specs.Told.{told}
 use Rattle.int_union.specs.Calls.{unionOf, planOf, lacksOf, allStored}
 use Rattle.ints.proofs.Seeking.{same-long}
-
--- two answers that cannot be equal
-clash : {A : Type 0} → _≡_ {A = ℕ} 0 1 → A
-clash e = absurd (omega arith)
 
 -- keys take no arena bytes
 weightless : (g : ℕ → ℕ) → ((k : ℕ) → g k ≡ 0) → (t : Table ℕ ℕ) (n : ℕ) → total g t n ≡ 0

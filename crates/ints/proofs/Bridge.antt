@@ -10,7 +10,7 @@ use lib.ListN.{length}
 use Rattle.model.specs.Store.{path, live-count, used, hurtful}
 use Rattle.model.specs.Calls.{Or, no, need, pass, seenBy, spotBy, get, entry, remove}
 use Rattle.model.specs.Walk.{paceTo}
-use Rattle.model.proofs.Cases.{by-bool}
+use Rattle.model.proofs.Cases.{by-bool, clash}
 use Rattle.digest.specs.Home.{homeOfWord, slotsFit}
 use Rattle.digest.proofs.Bounds.{home-word-below}
 use Rattle.answers.specs.declared.Refusal.the-variants.{Sizes}
@@ -123,11 +123,11 @@ module _ (marks keys : List ℕ) (k : ℕ) {r : Probed} (p : r ≡ probing marks
   pub hit-slot : {s e : ℕ} → r ≡ Hit s e → (s < length marks) × (length keys ≡ length marks)
   unfolding bare
   hit-slot q =
-      let f = fits-unless columns.nothing bare k p (λ z. let y : _≡_ {A = ℕ} 0 1 = cc in omega arith) in
+      let f = fits-unless columns.nothing bare k p (λ z. clash cc) in
       (hit-below (cells columns.nothing) bare k (home-inside columns.nothing bare k f) (sym (probing-path columns.nothing bare k f) ∙ sym p ∙ q), fitting-says marks keys f .1)
 
   pub free-slot : {s e : ℕ} → r ≡ Free s e → (s < length marks) × (length keys ≡ length marks)
   unfolding bare
   free-slot q =
-      let f = fits-unless columns.nothing bare k p (λ z. let y : _≡_ {A = ℕ} 0 1 = cc in omega arith) in
+      let f = fits-unless columns.nothing bare k p (λ z. clash cc) in
       (free-below (cells columns.nothing) bare k (home-inside columns.nothing bare k f) (sym (probing-path columns.nothing bare k f) ∙ sym p ∙ q), fitting-says marks keys f .1)

@@ -10,7 +10,7 @@ use lib.Seq.{getD-set-same, getD-set-other}
 use Rattle.model.specs.Slots.{Slot, never, freed, bad, live, Table, put, made, total, weigh}
 use Rattle.model.specs.Store.{used}
 use Rattle.model.specs.Lawful.{Lawful}
-use Rattle.model.proofs.Cases.{both, by-eq}
+use Rattle.model.proofs.Cases.{both, by-eq, clash}
 use Rattle.digest.specs.Home.{homeOfWord, slotsFit}
 use Rattle.digest.proofs.Bounds.{home-word-below}
 use Rattle.kinds.specs.Columns.{Column}
@@ -52,10 +52,10 @@ module _ {W : Type 0} (C : Column W) (O : Orderly C) where
   -- a live slot's mark is 1, and its key is the key
   cell-live : (a b k : ℕ) (v w : W) → cell a b v ≡ live k w → (x : W) → cell a b x ≡ live k x
   unfolding cell
-  cell-live zero b k v w e x = let z : _≡_ {A = ℕ} 0 1 = cc in absurd (omega arith)
+  cell-live zero b k v w e x = clash cc
   cell-live (suc zero) b k v w e x = ap (λ n. live n x) (cc)
-  cell-live (suc (suc zero)) b k v w e x = let z : _≡_ {A = ℕ} 0 1 = cc in absurd (omega arith)
-  cell-live (suc (suc (suc a))) b k v w e x = let z : _≡_ {A = ℕ} 0 1 = cc in absurd (omega arith)
+  cell-live (suc (suc zero)) b k v w e x = clash cc
+  cell-live (suc (suc (suc a))) b k v w e x = clash cc
 
   pub cells-lawful : Lawful (cells C)
   unfolding used cell made

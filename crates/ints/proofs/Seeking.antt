@@ -10,7 +10,7 @@ use lib.ListN.{length}
 use Rattle.model.specs.Store.{Store, path}
 use Rattle.answers.specs.declared.Refusal.the-variants.{Sizes}
 use Rattle.model.specs.Calls.{no, need, get, entry, remove}
-use Rattle.model.proofs.Cases.{both, by-bool}
+use Rattle.model.proofs.Cases.{both, by-bool, clash}
 use Rattle.digest.specs.Home.{homeOfWord, slotsFit}
 use Rattle.kinds.specs.declared.Probed.{Probed}
 use Rattle.kinds.specs.declared.Probed.the-variants.{Hit, Free, Refused}
@@ -64,12 +64,12 @@ module _ {W : Type 0} (C : Column W) (m : Cells C) (k : ℕ) where
 
     pub sought-hit : {s e : ℕ} → r ≡ Hit s e → (s < length (m .marks)) × (length (m .keys) ≡ length (m .marks)) × (C .long (m .words) (length (m .marks)) ≡ true)
     sought-hit q =
-        let (x, l) = sought (λ z. let y : _≡_ {A = ℕ} 0 1 = cc in omega arith) in
+        let (x, l) = sought (λ z. clash cc) in
         let (a, b) = hit-slot (m .marks) (m .keys) k x q in (a, b, l)
 
     pub sought-free : {s e : ℕ} → r ≡ Free s e → (s < length (m .marks)) × (length (m .keys) ≡ length (m .marks)) × (C .long (m .words) (length (m .marks)) ≡ true)
     sought-free q =
-        let (x, l) = sought (λ z. let y : _≡_ {A = ℕ} 0 1 = cc in omega arith) in
+        let (x, l) = sought (λ z. clash cc) in
         let (a, b) = free-slot (m .marks) (m .keys) k x q in (a, b, l)
 
 -- a map's sizes and the probing in it, from its own tests

@@ -9,7 +9,7 @@ use Rattle.model.specs.Path.{from, at, stops, Find, hit, miss, hurt, ends, stop
 use Rattle.model.specs.Store.{Store, path, slotAt, live-count, used, hurtful}
 use Rattle.model.specs.Calls.{Or, no, ok, need, Seen, found, absent, Spot, occupied, vacant, seenBy, spotBy}
 use Rattle.model.specs.Walk.{Paced, pair, nothing, halts, halted, paceTo}
-use Rattle.model.proofs.Cases.{by-bool, by-lt}
+use Rattle.model.proofs.Cases.{by-bool, by-lt, clash}
 use Rattle.model.proofs.Path.{at-below, hit-at, from-low, from-here}
 use Rattle.model.proofs.Slots.{count-high}
 use Rattle.answers.specs.Refusals.{numberOf}
@@ -46,10 +46,6 @@ abbrev pub pacedOf : {K W : Type 0} → (ℕ → K) → (ℕ → W) → ℕ → 
 pacedOf key read w g (next.Live j) = ok (pair (key j) (read j) (suc j) (suc j - w))
 pacedOf key read w g next.Bad = no 5
 pacedOf key read w g next.Nothing = ok (nothing (w + g) g)
-
--- two answers that cannot be equal
-clash : {A : Type 0} → _≡_ {A = ℕ} 0 1 → A
-clash e = absurd (omega arith)
 
 -- what holds of each kind of slot, whatever its key and value, holds of each mark
 same-cell : {K L W : Type 0} {a : K} {b : L} {v : W} (P : Slot K W → Slot L (Unit {0}) → Type 0) → P never never → P freed freed → P bad bad → P (live a v) (live b tt) → (m : ℕ) → P (cell m a v) (cell m b tt)

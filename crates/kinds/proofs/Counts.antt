@@ -6,7 +6,7 @@ use native.Mathlib.Omega.{arith}
 use borrow.Author.Tests.{ne-eqb, le-leb, lt-leb}
 use Rattle.model.specs.Calls.{Or, no, ok, need, length, reserve}
 use Rattle.model.specs.Store.{Store, live-count, hurtful}
-use Rattle.model.proofs.Cases.{by-bool}
+use Rattle.model.proofs.Cases.{by-bool, clash}
 use Rattle.model.proofs.Slots.{count-high}
 use Rattle.answers.specs.declared.Refusal.{Refusal}
 use Rattle.answers.specs.declared.Refusal.the-variants.{NoSlot}
@@ -35,16 +35,16 @@ module _ {K W : Type 0} (M : Store K W) (m : M .State) where
   unfolding length need
   length-ok e = by-bool (M .sized m)
       (λ s. by-bool (hurtful M m)
-      (λ h. let z : _≡_ {A = ℕ} 0 1 = cc (rw (s, h) at e) in absurd (omega arith))
+      (λ h. clash (cc (rw (s, h) at e)))
       (λ h. (s, h, cc (rw (s, h) at e))))
-      (λ s. let z : _≡_ {A = ℕ} 0 1 = cc (rw s at e) in absurd (omega arith))
+      (λ s. clash (cc (rw s at e)))
 
   reserve-no : (asked : ℕ) {i : ℕ} → length M m ≡ no i → reserve M m asked ≡ no i
   unfolding length reserve need
   reserve-no asked e = by-bool (M .sized m)
       (λ s. by-bool (hurtful M m)
       (λ h. rw (s, h) (cc (rw (s, h) at e)))
-      (λ h. let z : _≡_ {A = ℕ} 0 1 = cc (rw (s, h) at e) in absurd (omega arith)))
+      (λ h. clash (cc (rw (s, h) at e))))
       (λ s. rw s (cc (rw s at e)))
 
   module _ {r : Counted} (p : countedNumbers r ≡ lenOf M m) where

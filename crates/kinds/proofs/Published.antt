@@ -4,7 +4,6 @@ use mathlib.Core.Bool.{true, false}
 use mathlib.Core.List.{List}
 use mathlib.Core.Option.{none}
 use mathlib.Core.Path.{_≡_, refl, _∙_}
-use native.Mathlib.Omega.{arith}
 use Rattle.model.specs.Store.{Store}
 use Rattle.model.specs.Calls.{Or, no, ok}
 use Rattle.model.specs.Machine.{Answer, refused, fine, number, truth, seen, spot, value, paced, report, World, answer, turned}
@@ -12,7 +11,7 @@ use Rattle.model.specs.Lawful.{Lawful, Steady}
 use Rattle.model.specs.Demand1.{Least, rows, refusal, numberIn}
 use Rattle.model.specs.Demand2.{refuses, InStep}
 use Rattle.model.specs.Places.{Places, Apart, names}
-use Rattle.model.proofs.Cases.{by-bool}
+use Rattle.model.proofs.Cases.{by-bool, clash}
 use Rattle.model.proofs.Least.{KeyBar, lowest-given, refused-still}
 use Rattle.model.proofs.Demand2 as model
 use Rattle.model.proofs.Places.{only-named}
@@ -28,7 +27,7 @@ module _ {K W : Type 0} where
   -- an answer that is no refusal has the number 0
   accepted-zero : (a : Answer K W) → refuses a ≡ false → refusal a ≡ 0
   unfolding refuses refusal
-  accepted-zero (refused n) e = let z : _≡_ {A = ℕ} 0 1 = cc in absurd (omega arith)
+  accepted-zero (refused n) e = clash cc
   accepted-zero fine e = refl
   accepted-zero (number n) e = refl
   accepted-zero (truth b) e = refl

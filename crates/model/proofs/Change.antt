@@ -3,11 +3,10 @@ use Prim.Native.Nat.{ℕ, zero, suc, _<_}
 use mathlib.Core.Bool.{true, false, cond}
 use mathlib.Core.Path.{_≡_, refl, sym, _∙_, ap, ap₂}
 use mathlib.Core.Option.{none, some}
-use native.Mathlib.Omega.{arith}
 use Rattle.model.specs.Slots.{Slot, never, freed, bad, live, Table, Keys, put, frees, holds, valueIn, look}
 use Rattle.model.specs.Path.{at, freeAt}
 use Rattle.model.specs.Sound.{Sound}
-use Rattle.model.proofs.Cases.{by-same}
+use Rattle.model.proofs.Cases.{by-same, clash}
 use Rattle.model.proofs.Slots.{put-same, by-put, lacks, value-lacks, look-none}
 use Rattle.model.proofs.Path.{at-below, free-here}
 use Rattle.model.proofs.Sound.{sound-look, fresh-sound, replaced-sound}
@@ -26,7 +25,7 @@ module _ {K W : Type 0} (E : Keys K) where
   frees-lacks a never e = refl
   frees-lacks a freed e = refl
   frees-lacks a bad e = refl
-  frees-lacks a (live x v) e = let z : _≡_ {A = ℕ} 0 1 = cc in absurd (omega arith)
+  frees-lacks a (live x v) e = clash cc
 
   -- a slot live with k lacks every other key
   live-lacks : (k a : K) (s : Slot K W) (v : W) → s ≡ live k v → E .same a k ≡ false → holds E a s ≡ false

@@ -14,7 +14,7 @@ use Rattle.model.specs.Calls.{Or, no, ok, need, pass, give, Spot, occupi
 use Rattle.model.specs.Walk.{halts, halted, reachOf, paceTo, pace, step}
 use Rattle.model.specs.Machine.{Own, makes, clears, capacities, lens, empties, reserves, gets, contains-keys, removes, entries, inserts, occupied-gets, occupied-removes, occupied-sets, vacant-inserts, or-inserts, insert-entries, Call, own, copies, unions, steps, Answer, fine, number, truth, seen, spot, value, paced, report, World, tells, stepping, answer}
 use Rattle.model.specs.Demand1.{Row, row, First, none-applies, applies-here, goes-on, refusal, numberIn, BadOnPath, Absent, BadSomewhere, sized-rows, count-rows, reserve-rows, look-rows, remove-rows, place-rows, grip-rows, drop-rows, open-rows, step-rows, copy-rows, union-rows, rows}
-use Rattle.model.proofs.Cases.{by-bool, by-lt, by-eq, by-same}
+use Rattle.model.proofs.Cases.{by-bool, by-lt, by-eq, by-same, clash}
 use Rattle.model.proofs.Slots.{damaged-where, damaged-bad}
 use Rattle.model.proofs.Path.{from-low, from-before, from-here, Ended, find-ended, ended-hit, ended-never, ended-round, ended-bad, examined-stop, miss-free}
 use Rattle.model.proofs.Walk.{reach-high, reach-budget}
@@ -41,7 +41,7 @@ module _ {A : Type 0} where
   first-pass (suc n) a rs goes = here (λ e. omega arith)
 
   first-sized : (b : Bool) (a : Or A) (rs : List Row) → (b ≡ true → First rs (numberIn a)) → First (row 1 (b ≡ false) ∷ rs) (numberIn (need b 1 a))
-  first-sized b a rs goes = first-need b 1 a (b ≡ false) rs (λ e. e) (λ e f. let z : _≡_ {A = ℕ} 0 1 = cc in omega arith) goes
+  first-sized b a rs goes = first-need b 1 a (b ≡ false) rs (λ e. e) (λ e f. clash cc) goes
 
   -- 5 of a storing call: by its examining every slot, or by what it examines besides
   first-harmed : (b : Bool) (a : Or A) (P : Type 0) (rs : List Row) → (b ≡ false → First (row 5 P ∷ rs) (numberIn a)) → First (row 5 ((b ≡ true) ⊎ P) ∷ rs) (numberIn (need (not b) 5 a))
@@ -51,7 +51,7 @@ module _ {A : Type 0} where
     where
       widened : {n : ℕ} → First (row 5 P ∷ rs) n → First (row 5 ((false ≡ true) ⊎ P) ∷ rs) n
       widened (applies-here x) = here (inr x)
-      widened (goes-on x g) = on (λ y. ⊎-elim (λ e. let z : _≡_ {A = ℕ} 0 1 = cc in omega arith) x y) g
+      widened (goes-on x g) = on (λ y. ⊎-elim (λ e. clash cc) x y) g
 
 -- one slot cannot be two
 apart {ℓ} : {A : Type 0} {B : Type ℓ} {x : A} (a b : A) → x ≡ a → x ≡ b → (a ≡ b → B) → B
@@ -92,16 +92,16 @@ module _ {K W : Type 0} (M : Store K W) (m : M .State) (k : K) where
 
       go : (r : Find W) → find (M .keys) (M .size m) (M .home m k) (M .slots m) k ≡ r → Ended (M .keys) (M .size m) (M .home m k) (M .slots m) k r → Told
       go r q (ended-hit n v x l p) = told-hit n v q
-          (λ b. let c = bad-last b .0 in let d = ends-with x p in let z : _≡_ {A = ℕ} 0 1 = cc in omega arith)
+          (λ b. let c = bad-last b .0 in let d = ends-with x p in clash cc)
           (λ a. a n v (rw x (last-examined (omega arith))) p)
       go r q (ended-never n x l p) = told-miss (suc n) (freeAt (M .size m) (M .home m k) (M .slots m)) q
-          (λ b. let c = bad-last b .0 in let d = ends-with x p in let z : _≡_ {A = ℕ} 0 1 = cc in omega arith)
-          (λ j v c e. let f = live-last j v c e .0 in let d = ends-with x p in let z : _≡_ {A = ℕ} 0 1 = cc in omega arith)
+          (λ b. let c = bad-last b .0 in let d = ends-with x p in clash cc)
+          (λ j v c e. let f = live-last j v c e .0 in let d = ends-with x p in clash cc)
       go r q (ended-round x) = told-miss (M .size m) (freeAt (M .size m) (M .home m k) (M .slots m)) q
           (λ b. omega (arith, bad-last b .1))
           (λ j v c e. omega (arith, live-last j v c e .1))
       go r q (ended-bad n x l p) = told-hurt q (n, rw x (last-examined (omega arith)), p)
-          (λ j v c e. let f = live-last j v c e .0 in let d = ends-with x p in let z : _≡_ {A = ℕ} 0 1 = cc in omega arith)
+          (λ j v c e. let f = live-last j v c e .0 in let d = ends-with x p in clash cc)
 
 module _ {K W : Type 0} (M : Store K W) where
   hurt-somewhere : (m : M .State) → hurtful M m ≡ true → BadSomewhere M m
@@ -110,7 +110,7 @@ module _ {K W : Type 0} (M : Store K W) where
 
   somewhere-hurt : (m : M .State) → BadSomewhere M m → hurtful M m ≡ false → ⊥
   unfolding hurtful
-  somewhere-hurt m b e = let c : _≡_ {A = Bool} true false = sym (damaged-bad (M .slots m) (M .size m) (b .0) (b .1) (b .2)) ∙ e in let z : _≡_ {A = ℕ} 0 1 = cc in omega arith
+  somewhere-hurt m b e = let c : _≡_ {A = Bool} true false = sym (damaged-bad (M .slots m) (M .size m) (b .0) (b .1) (b .2)) ∙ e in clash cc
 
 -- a step: 5 exactly when a slot that it passes is damaged
 module _ {K W : Type 0} (S : ℕ) (t : Table K W) (a b : ℕ) where
@@ -127,17 +127,17 @@ module _ {K W : Type 0} (S : ℕ) (t : Table K W) (a b : ℕ) where
   first-halt d =
       let r : d .0 < a + reachOf S a b = by-bool (leb b (S - a)) (λ e. rw e (d .3)) (λ e. rw e (omega (arith, d .1, d .2))) in
       by-lt (d .0) (from (λ i. halts (t i)) (reachOf S a b) a)
-      (λ l x. let c : _≡_ {A = Bool} true false = sym (halts-bad (d .0) (d .4)) ∙ from-before (λ i. halts (t i)) (reachOf S a b) a (d .0) (d .1) l in let z : _≡_ {A = ℕ} 0 1 = cc in absurd (omega arith))
+      (λ l x. let c : _≡_ {A = Bool} true false = sym (halts-bad (d .0) (d .4)) ∙ from-before (λ i. halts (t i)) (reachOf S a b) a (d .0) (d .1) l in clash cc)
       (λ l x. (l, omega arith))
 
   first-halted : (j : ℕ) (c : Slot K W) → t j ≡ c → halts c ≡ true → a ≤ j → j < a + reachOf S a b → ((i : ℕ) → a ≤ i → i < j → halts (t i) ≡ false) → ((d : Passed) → j ≤ d .0) → First (row 5 Passed ∷ []) (numberIn (halted a j c))
   unfolding halted numberIn halts
-  first-halted j never e h lo hi before q = let z : _≡_ {A = ℕ} 0 1 = cc in absurd (omega arith)
-  first-halted j freed e h lo hi before q = let z : _≡_ {A = ℕ} 0 1 = cc in absurd (omega arith)
+  first-halted j never e h lo hi before q = clash cc
+  first-halted j freed e h lo hi before q = clash cc
   first-halted j bad e h lo hi before q = here (j, lo, omega (arith, reach-high S a b), omega (arith, reach-budget S a b), e, λ i k v x y p. not-between t i k v p (before i x y))
   first-halted j (live k v) e h lo hi before q = on (λ d. by-lt j (d .0)
       (λ l x. d .5 j k v lo l e)
-      (λ l x. let r : j ≡ d .0 = omega (arith, q d) in apart (live k v) bad e (ap t r ∙ d .4) λ c. let z : _≡_ {A = ℕ} 0 1 = cc in omega arith)) none-applies
+      (λ l x. let r : j ≡ d .0 = omega (arith, q d) in apart (live k v) bad e (ap t r ∙ d .4) λ c. clash cc)) none-applies
 
   first-pace : First (row 5 Passed ∷ []) (numberIn (pace S t a b))
   unfolding pace paceTo numberIn
@@ -190,23 +190,23 @@ module _ {K W : Type 0} (M : Store K W) (homes : (m : M .State) (k : K) → M .s
       (λ l x. rw x (on (λ y. omega (arith, y .0)) (here (λ v c e. omega arith))))
     where
       go : (c : Slot K W) → M .slots m s ≡ c → s < M .size m → First (row 5 ((s < M .size m) × (M .slots m s ≡ bad)) ∷ row 6 ((v : W) → s < M .size m → M .slots m s ≡ live k v → ⊥) ∷ []) (numberIn (gripOn M k c))
-      go never e l = on (λ y. apart never bad e (y .1) λ q. let z : _≡_ {A = ℕ} 0 1 = cc in omega arith) (here (λ v c q. apart never (live k v) e q λ q. let z : _≡_ {A = ℕ} 0 1 = cc in omega arith))
-      go freed e l = on (λ y. apart freed bad e (y .1) λ q. let z : _≡_ {A = ℕ} 0 1 = cc in omega arith) (here (λ v c q. apart freed (live k v) e q λ q. let z : _≡_ {A = ℕ} 0 1 = cc in omega arith))
+      go never e l = on (λ y. apart never bad e (y .1) λ q. clash cc) (here (λ v c q. apart never (live k v) e q λ q. clash cc))
+      go freed e l = on (λ y. apart freed bad e (y .1) λ q. clash cc) (here (λ v c q. apart freed (live k v) e q λ q. clash cc))
       go bad e l = here (l, e)
-      go (live a w) e l = on (λ y. apart (live a w) bad e (y .1) λ q. let z : _≡_ {A = ℕ} 0 1 = cc in omega arith)
+      go (live a w) e l = on (λ y. apart (live a w) bad e (y .1) λ q. clash cc)
           (by-same (M .keys) k a
           (λ q x. rw x (on (λ h. h w l (e ∙ ap (λ y. live y w) (sym q))) none-applies))
           (λ x. rw x (here (λ v c q.
           let r : live a w ≡ live k v = sym e ∙ q in
           let d : k ≡ a = cc in
           let y : _≡_ {A = Bool} true false = sym (M .keys .self k) ∙ ap (λ b. M .keys .same k b) d ∙ x in
-          let z : _≡_ {A = ℕ} 0 1 = cc in omega arith))))
+          clash cc))))
 
   not-five : (f e : ℕ) (k : K) → need {A = Spot W} (ltb f (M .size m)) 7 (need (leb (M .weight k) (M .bytes m - used M m)) 8 (ok (vacant (slotAt M m k f) e))) ≡ no 5 → ⊥
   unfolding need
   not-five f e k h = by-bool (ltb f (M .size m))
       (λ x. by-bool (leb (M .weight k) (M .bytes m - used M m))
-      (λ y. let c : _≡_ {A = Or (Spot W)} (ok (vacant (slotAt M m k f) e)) (no 5) = rw (x, y) at h in let z : _≡_ {A = ℕ} 0 1 = cc in omega arith)
+      (λ y. let c : _≡_ {A = Or (Spot W)} (ok (vacant (slotAt M m k f) e)) (no 5) = rw (x, y) at h in clash cc)
       (λ y. let c : _≡_ {A = Or (Spot W)} (no 8) (no 5) = rw (x, y) at h in let z : _≡_ {A = ℕ} 8 5 = cc in omega arith))
       (λ x. let c : _≡_ {A = Or (Spot W)} (no 7) (no 5) = rw x at h in let z : _≡_ {A = ℕ} 7 5 = cc in omega arith)
 
@@ -216,8 +216,8 @@ module _ {K W : Type 0} (M : Store K W) (homes : (m : M .State) (k : K) → M .s
 
   first-good : (s : ℕ) (k : K) → (BadOnPath M m k → ⊥) → (r : Or (Spot W)) → entry M m k ≡ r → (r ≡ no 5 → ⊥) → First (vacant-rows s k) (numberIn (goodFor M s r))
   unfolding goodFor numberIn need
-  first-good s k b (no n) q h = rw (ne-eqb n 5 (λ c. h (ap (λ i. no i) c))) (on b (here (λ e p. apart (no n) (ok (vacant s e)) q p λ c. let z : _≡_ {A = ℕ} 0 1 = cc in omega arith)))
-  first-good s k b (ok (occupied x w y)) q h = on b (here (λ e p. apart (ok (occupied x w y)) (ok (vacant s e)) q p λ c. let z : _≡_ {A = ℕ} 0 1 = cc in omega arith))
+  first-good s k b (no n) q h = rw (ne-eqb n 5 (λ c. h (ap (λ i. no i) c))) (on b (here (λ e p. apart (no n) (ok (vacant s e)) q p λ c. clash cc)))
+  first-good s k b (ok (occupied x w y)) q h = on b (here (λ e p. apart (ok (occupied x w y)) (ok (vacant s e)) q p λ c. clash cc))
   first-good s k b (ok (vacant x y)) q h = on b (by-eq s x
       (λ c t. rw t (on (λ g. g y (q ∙ ap (λ i. ok (vacant i y)) (sym c))) none-applies))
       (λ c t. rw t (here (λ e p. apart (ok (vacant x y)) (ok (vacant s e)) q p λ d. c (cc)))))
@@ -227,7 +227,7 @@ module _ {K W : Type 0} (M : Store K W) (homes : (m : M .State) (k : K) → M .s
   first-open s k q = go (told M m k)
     where
       go : Told M m k → First (vacant-rows s k) (numberIn (goodFor M s (spotBy M m k (path M m k))))
-      go (told-hit n v p b a) = first-good s k b (spotBy M m k (path M m k)) q (λ h. let c : ok (occupied (slotAt M m k n) v (suc n)) ≡ no 5 = rw p at h in let z : _≡_ {A = ℕ} 0 1 = cc in omega arith)
+      go (told-hit n v p b a) = first-good s k b (spotBy M m k (path M m k)) q (λ h. let c : ok (occupied (slotAt M m k n) v (suc n)) ≡ no 5 = rw p at h in clash cc)
       go (told-miss e f p b a) = first-good s k b (spotBy M m k (path M m k)) q (λ h. not-five f e k (rw p at h))
       go (told-hurt p b a) = rw p (here b)
 
@@ -300,7 +300,7 @@ module _ {K W : Type 0} (M : Store K W) (homes : (m : M .State) (k : K) → M .s
   joined-row false n a P Q rs fails passes goes = here (inl (fails refl))
 
   false-sized : (b : Bool) → b ≡ true → b ≡ false → ⊥
-  false-sized b e f = let z : _≡_ {A = ℕ} 0 1 = cc in omega arith
+  false-sized b e f = clash cc
 
   copied-rows : (m n : M .State) → First (copy-rows M m n) (numberIn (copy M m n))
   unfolding copy numberIn
@@ -319,10 +319,10 @@ module _ {K W : Type 0} (M : Store K W) (homes : (m : M .State) (k : K) → M .s
 
   is-ruined : (m : M .State) → ruined M m ≡ false → Ruin m → ⊥
   unfolding ruined
-  is-ruined m e (inl b) = by-bool (hurtful M m) (λ h. let c : _≡_ {A = Bool} true false = rw h at e in let z : _≡_ {A = ℕ} 0 1 = cc in omega arith) (λ h. somewhere-hurt M m b h)
+  is-ruined m e (inl b) = by-bool (hurtful M m) (λ h. let c : _≡_ {A = Bool} true false = rw h at e in clash cc) (λ h. somewhere-hurt M m b h)
   is-ruined m e (inr h) = by-bool (hurtful M m)
-      (λ x. let c : _≡_ {A = Bool} true false = rw x at e in let z : _≡_ {A = ℕ} 0 1 = cc in omega arith)
-      (λ x. let c : _≡_ {A = Bool} true false = sym h ∙ (rw x at e) in let z : _≡_ {A = ℕ} 0 1 = cc in omega arith)
+      (λ x. let c : _≡_ {A = Bool} true false = rw x at e in clash cc)
+      (λ x. let c : _≡_ {A = Bool} true false = sym h ∙ (rw x at e) in clash cc)
 
   united-rows : (l r : M .State) → First (union-rows M l r) (numberIn (union M l r))
   unfolding union numberIn

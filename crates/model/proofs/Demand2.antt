@@ -4,7 +4,6 @@ use mathlib.Core.Bool.{Bool, true, false, cond}
 use mathlib.Core.List.{List, [], _∷_}
 use mathlib.Core.Path.{_≡_, refl, sym, _∙_, ap, subst}
 use mathlib.Core.Option.{Option, none, some}
-use native.Mathlib.Omega.{arith}
 use lib.Dec.{ltb, leb, eqb}
 use Rattle.model.specs.Slots.{live, pairs}
 use Rattle.model.specs.Path.{Find, hit, miss, hurt}
@@ -15,7 +14,7 @@ use Rattle.model.specs.Walk.{Paced, pair, step}
 use Rattle.model.specs.Machine.{Own, makes, clears, capacities, lens, empties, reserves, gets, contains-keys, removes, entries, inserts, occupied-gets, occupied-removes, occupied-sets, vacant-inserts, or-inserts, insert-entries, Call, own, copies, unions, steps, Answer, refused, fine, seen, spot, paced, report, World, placed, tells, leaves, stepping, answer, left, turned}
 use Rattle.model.specs.Demand2.{counted, refuses, grows, renews, mapped, joined, next, becomes, Agrees, keyOf, InStep, in-step-end, in-step-call}
 use Rattle.model.specs.Lawful.{Lawful, Shows}
-use Rattle.model.proofs.Cases.{by-bool, by-eq}
+use Rattle.model.proofs.Cases.{by-bool, by-eq, clash}
 use Rattle.model.proofs.Path.{hit-examined, miss-examined}
 use Rattle.model.proofs.Sound.{sound-look}
 use Rattle.model.proofs.Accepted.{need-ok}
@@ -30,12 +29,12 @@ module _ {A K W : Type 0} (say : A → Answer K W) (x : ℕ) where
   counted-need : (b : Bool) (n : ℕ) (a : Or A) → counted (report say (need b n a)) ≡ some x → counted (report say a) ≡ some x
   unfolding need report counted
   counted-need true n a e = e
-  counted-need false n a e = let z : _≡_ {A = ℕ} 0 1 = cc in absurd (omega arith)
+  counted-need false n a e = clash cc
 
   counted-pass : (n : ℕ) (a : Or A) → counted (report say (pass n a)) ≡ some x → counted (report say a) ≡ some x
   unfolding pass report counted
   counted-pass zero a e = e
-  counted-pass (suc n) a e = let z : _≡_ {A = ℕ} 0 1 = cc in absurd (omega arith)
+  counted-pass (suc n) a e = clash cc
 
 -- on any memory, the examined number of a lookup is the path's own
 module _ {K W : Type 0} (M : Store K W) (m : M .State) where
@@ -46,7 +45,7 @@ module _ {K W : Type 0} (M : Store K W) (m : M .State) where
       go : (r : Find W) → path M m k ≡ r → counted (report {K = K} seen (seenBy M m k r)) ≡ some x → x ≡ pathLength M m k
       go (hit n v) p e = cc (hit-examined (M .keys) (M .size m) (M .home m k) (M .slots m) k n v p)
       go (miss n f) p e = cc (miss-examined (M .keys) (M .size m) (M .home m k) (M .slots m) k n f p)
-      go hurt p e = let z : _≡_ {A = ℕ} 0 1 = cc in absurd (omega arith)
+      go hurt p e = clash cc
 
   counted-spot : (k : K) (x : ℕ) → counted (report {K = K} spot (spotBy M m k (path M m k))) ≡ some x → x ≡ pathLength M m k
   unfolding report counted spotBy path pathLength
@@ -57,7 +56,7 @@ module _ {K W : Type 0} (M : Store K W) (m : M .State) where
       go (miss n f) p e =
           let q : some n ≡ some x = counted-need {K = K} spot x (leb (M .weight k) (M .bytes m - used M m)) 8 (ok (vacant (slotAt M m k f) n)) (counted-need {K = K} spot x (ltb f (M .size m)) 7 (need (leb (M .weight k) (M .bytes m - used M m)) 8 (ok (vacant (slotAt M m k f) n))) e) in
           cc (miss-examined (M .keys) (M .size m) (M .home m k) (M .slots m) k n f p)
-      go hurt p e = let z : _≡_ {A = ℕ} 0 1 = cc in absurd (omega arith)
+      go hurt p e = clash cc
 
   counted-get : (k : K) (x : ℕ) → counted (report {K = K} seen (get M m k)) ≡ some x → x ≡ pathLength M m k
   unfolding get
@@ -73,23 +72,23 @@ module _ {K W : Type 0} (M : Store K W) (m : M .State) where
 
   pub counted-own : (c : Own K W) (k : K) (x : ℕ) → keyOf M c ≡ some k → counted (tells M m c) ≡ some x → x ≡ pathLength M m k
   unfolding tells keyOf
-  counted-own makes k x q e = let z : _≡_ {A = ℕ} 0 1 = cc in absurd (omega arith)
-  counted-own clears k x q e = let z : _≡_ {A = ℕ} 0 1 = cc in absurd (omega arith)
-  counted-own capacities k x q e = let z : _≡_ {A = ℕ} 0 1 = cc in absurd (omega arith)
-  counted-own lens k x q e = let z : _≡_ {A = ℕ} 0 1 = cc in absurd (omega arith)
-  counted-own empties k x q e = let z : _≡_ {A = ℕ} 0 1 = cc in absurd (omega arith)
-  counted-own (reserves n) k x q e = let z : _≡_ {A = ℕ} 0 1 = cc in absurd (omega arith)
+  counted-own makes k x q e = clash cc
+  counted-own clears k x q e = clash cc
+  counted-own capacities k x q e = clash cc
+  counted-own lens k x q e = clash cc
+  counted-own empties k x q e = clash cc
+  counted-own (reserves n) k x q e = clash cc
   counted-own (gets a) k x q e = counted-get a x e ∙ ap (λ b. pathLength M m b) cc
   counted-own (contains-keys a) k x q e = counted-get a x e ∙ ap (λ b. pathLength M m b) cc
   counted-own (removes a) k x q e = counted-remove a x e ∙ ap (λ b. pathLength M m b) cc
   counted-own (entries a) k x q e = counted-entry a x e ∙ ap (λ b. pathLength M m b) cc
   counted-own (inserts a v) k x q e = counted-entry a x e ∙ ap (λ b. pathLength M m b) cc
-  counted-own (occupied-gets s a) k x q e = let z : _≡_ {A = ℕ} 0 1 = cc in absurd (omega arith)
-  counted-own (occupied-removes s a) k x q e = let z : _≡_ {A = ℕ} 0 1 = cc in absurd (omega arith)
-  counted-own (occupied-sets s a v) k x q e = let z : _≡_ {A = ℕ} 0 1 = cc in absurd (omega arith)
-  counted-own (vacant-inserts s a v) k x q e = let z : _≡_ {A = ℕ} 0 1 = cc in absurd (omega arith)
-  counted-own (or-inserts h a v) k x q e = let z : _≡_ {A = ℕ} 0 1 = cc in absurd (omega arith)
-  counted-own (insert-entries h a v) k x q e = let z : _≡_ {A = ℕ} 0 1 = cc in absurd (omega arith)
+  counted-own (occupied-gets s a) k x q e = clash cc
+  counted-own (occupied-removes s a) k x q e = clash cc
+  counted-own (occupied-sets s a v) k x q e = clash cc
+  counted-own (vacant-inserts s a v) k x q e = clash cc
+  counted-own (or-inserts h a v) k x q e = clash cc
+  counted-own (insert-entries h a v) k x q e = clash cc
 
 module _ {K W : Type 0} (M : Store K W) (L : Lawful M) where
   copy-agrees : (m n : M .State) → M .sized m ≡ true → M .sized n ≡ true → report {K = K} {W = W} (λ u. fine) (copy M m n) ≡ cond (eqb (M .size m) (M .size n)) (cond (eqb (M .bytes m) (M .bytes n)) fine (refused 1)) (refused 1)
@@ -101,15 +100,15 @@ module _ {K W : Type 0} (M : Store K W) (L : Lawful M) where
   step-agrees m f s a b k v p n r = go (stepping M m a b) refl r
     where
       go : (x : Or (Paced K W)) → stepping M m a b ≡ x → report paced x ≡ paced (pair k v p n) → f .look k ≡ some v
-      go (no i) e q = let z : _≡_ {A = ℕ} 0 1 = cc in absurd (omega arith)
+      go (no i) e q = clash cc
       go (ok y) e q = walked (strode (M .size m) (M .slots m) a 0 b y (need-ok (M .sized m) 1 (step (M .size m) (M .slots m) 0 a b) y e .1))
         where
           walked : Strode (M .size m) (M .slots m) a b y → f .look k ≡ some v
           walked (strode-pair j k′ v′ l h u t c d) =
               let x : M .slots m j ≡ live k v = t ∙ ap (λ z. live z v′) (cc) ∙ ap (λ z. live k z) (cc) in
               sym (s .looks k) ∙ sound-look (M .keys) (M .size m) (M .home m) (home-below M L m (s .healthy)) (M .slots m) (s .healthy .sound) k j v h x
-          walked (strode-nothing j l h u c d) = let z : _≡_ {A = ℕ} 0 1 = cc in absurd (omega arith)
-          walked (strode-done h d) = let z : _≡_ {A = ℕ} 0 1 = cc in absurd (omega arith)
+          walked (strode-nothing j l h u c d) = clash cc
+          walked (strode-done h d) = clash cc
 
   call-agrees : (w : World M) (e : ℕ → Option (Finite K W)) → ((y : ℕ) (f : Finite K W) → e y ≡ some f → Shows M L (w y) f) → (x : ℕ) (c : Call K W) (f : Finite K W) → e x ≡ some f → Agrees M w e x f c
   unfolding answer
@@ -125,8 +124,8 @@ module _ {K W : Type 0} (M : Store K W) (L : Lawful M) where
 
   joined-shows : (l r : M .State) (o p : Option (Finite K W)) → ((g : Finite K W) → o ≡ some g → Shows M L l g) → ((g : Finite K W) → p ≡ some g → Shows M L r g) → (f : Finite K W) (u : Unit {0}) → union M l r ≡ ok u → joined M o p ≡ some f → Shows M L (storeAll M l (pairs (M .slots r) (M .size r))) f
   unfolding joined after-union acted
-  joined-shows l r none p h t f u a q = let z : _≡_ {A = ℕ} 0 1 = cc in absurd (omega arith)
-  joined-shows l r (some x) none h t f u a q = let z : _≡_ {A = ℕ} 0 1 = cc in absurd (omega arith)
+  joined-shows l r none p h t f u a q = clash cc
+  joined-shows l r (some x) none h t f u a q = clash cc
   joined-shows l r (some x) (some y) h t f u a q =
       let d : union-prefer-right x y ≡ f = cc in
       subst (λ g. Shows M L (storeAll M l (pairs (M .slots r) (M .size r))) g) d (rw a at (union-map M L l r x (h x refl) y (t y refl) u a))
@@ -135,8 +134,8 @@ module _ {K W : Type 0} (M : Store K W) (L : Lawful M) where
   other-left : (m : M .State) (o : Option (Finite K W)) → ((g : Finite K W) → o ≡ some g → Shows M L m g) → (c : Own K W) (f : Finite K W) → cond (refuses (tells M m c)) o (mapped M (grows M c) o) ≡ some f → Shows M L (leaves M m c) f
   unfolding mapped
   other-left m none h c f q = by-bool (refuses (tells M m c))
-      (λ p. let r : none ≡ some f = rw p at q in let z : _≡_ {A = ℕ} 0 1 = cc in absurd (omega arith))
-      (λ p. let r : none ≡ some f = rw p at q in let z : _≡_ {A = ℕ} 0 1 = cc in absurd (omega arith))
+      (λ p. let r : none ≡ some f = rw p at q in clash cc)
+      (λ p. let r : none ≡ some f = rw p at q in clash cc)
   other-left m (some g) h c f q = by-bool (refuses (tells M m c))
       (λ p. let r : some g ≡ some f = rw p at q in let d : g ≡ f = cc in subst (λ g. Shows M L (leaves M m c) g) d (rw p at (own-shows M L m g (h g refl) c)))
       (λ p. let r : some (grows M c g) ≡ some f = rw p at q in let d : grows M c g ≡ f = cc in subst (λ g. Shows M L (leaves M m c) g) d (rw p at (own-shows M L m g (h g refl) c)))
@@ -172,4 +171,4 @@ module _ {K W : Type 0} (M : Store K W) (L : Lawful M) where
 
   -- demand 2, from any memory: nothing is known at first, and make makes a table known
   pub demand-2 : (cs : List (ℕ × Call K W)) (w : World M) → InStep M L cs w (λ y. none)
-  demand-2 cs w = in-step cs w (λ y. none) (λ y f q. let z : _≡_ {A = ℕ} 0 1 = cc in absurd (omega arith))
+  demand-2 cs w = in-step cs w (λ y. none) (λ y f q. clash cc)

@@ -12,19 +12,11 @@ use Rattle.model.specs.Path.{from}
 use Rattle.model.specs.Calls.{Or, no, ok, need, pass}
 use Rattle.model.specs.Walk.{Paced, pair, halts, halted, reachOf, paceTo, pace, step, movedBy}
 use Rattle.model.specs.Demand3.{Machine, Event, steps, calls, handsOut, unrefused, has, stepped, stateAfter, walkAfter, good, times, stays, Walked, Orderly}
-use Rattle.model.proofs.Cases.{by-bool, by-lt, by-eq, by-same}
+use Rattle.model.proofs.Cases.{by-bool, by-lt, by-eq, by-same, both, clash}
 use Rattle.model.proofs.Slots.{look-some}
 use Rattle.model.proofs.Finite.{some-is}
 use Rattle.model.proofs.Sound.{once-look}
 use Rattle.model.proofs.Walk.{Strode, strode-pair, strode-nothing, strode-done, strode, reach-high}
-
-both-left : (a b : Bool) → (a && b) ≡ true → a ≡ true
-both-left true b e = refl
-both-left false b e = e
-
-both-right : (a b : Bool) → (a && b) ≡ true → b ≡ true
-both-right true b e = e
-both-right false b e = let z : _≡_ {A = ℕ} 0 1 = cc in absurd (omega arith)
 
 -- 1 where the slot i lies before w
 past : ℕ → ℕ → ℕ
@@ -48,7 +40,7 @@ halts-live s k v e = rw e
 
 -- a slot that does not halt a step is not live
 pub not-between : {K W : Type 0} (t : Table K W) (i : ℕ) (k : K) (v : W) → t i ≡ live k v → halts (t i) ≡ false → ⊥
-not-between t i k v e h = let q : true ≡ false = sym (halts-live (t i) k v e) ∙ h in let z : _≡_ {A = ℕ} 0 1 = cc in omega arith
+not-between t i k v e h = let q : true ≡ false = sym (halts-live (t i) k v e) ∙ h in clash cc
 
 module _ {K W : Type 0} (E : Keys K) (S : ℕ) (t : Table K W) (once : (i j : ℕ) (k : K) (v w : W) → i < S → j < S → t i ≡ live k v → t j ≡ live k w → i ≡ j) where
   -- one step: the key at slot i is handed out exactly when the step passes i
@@ -67,7 +59,7 @@ module _ {K W : Type 0} (E : Keys K) (S : ℕ) (t : Table K W) (once : (i j : �
           (λ d p. let m : live k v ≡ live k′ v′ = sym e ∙ ap t d ∙ q in
           let c : k ≡ k′ = cc in
           let f : true ≡ false = sym (E .self k) ∙ ap (λ a. E .same k a) c ∙ x in
-          let g : _≡_ {A = ℕ} 0 1 = cc in absurd (omega arith))
+          clash cc)
           (λ d p. omega arith))))))
       told a (strode-nothing x lo hi u none-between r) = rw r (past-same i w x (λ y. omega arith) (λ y. by-lt i x (λ z o. absurd (not-between t i k v e (none-between i y z))) (λ z o. z)))
       told a (strode-done q r) = rw (r, q) (omega arith)
@@ -108,8 +100,8 @@ module _ {K W : Type 0} (S : ℕ) (t : Table K W) where
     where
       go : Strode S t w b (pair k v y n) → (j : ℕ) × (w ≤ j) × (j < S) × (t j ≡ live k v) × (y ≡ suc j)
       go (strode-pair j a x lo hi u q c p) = (j, lo, hi, q ∙ ap (λ z. live z x) (cc) ∙ ap (λ z. live k z) (cc), cc)
-      go (strode-nothing x lo hi u c p) = let z : _≡_ {A = ℕ} 0 1 = cc in absurd (omega arith)
-      go (strode-done q p) = let z : _≡_ {A = ℕ} 0 1 = cc in absurd (omega arith)
+      go (strode-nothing x lo hi u c p) = clash cc
+      go (strode-done q p) = clash cc
 
   halted-unrefused : (w j : ℕ) (s : Slot K W) → (s ≡ bad → ⊥) → unrefused (halted w j s) ≡ 1
   unfolding halted unrefused
@@ -130,19 +122,19 @@ module _ {K W : Type 0} (M : Machine K W) (O : Orderly M) where
   stay-now : (es : List (Event (M .Call))) (x : M .State) (k : K) → stays M k x es ≡ true → (v : W) × (look (M .keys) (M .table x) (M .size) k ≡ some v)
   unfolding stays has
   stay-now [] x k s = some-is (M .keys) (look (M .keys) (M .table x) (M .size) k) s
-  stay-now (steps b ∷ es) x k s = some-is (M .keys) (look (M .keys) (M .table x) (M .size) k) (both-left (has M x k) (stays M k x es) s)
-  stay-now (calls c ∷ es) x k s = some-is (M .keys) (look (M .keys) (M .table x) (M .size) k) (both-left (has M x k) (not (M .wipes x c) && stays M k (M .after x c) es) s)
+  stay-now (steps b ∷ es) x k s = some-is (M .keys) (look (M .keys) (M .table x) (M .size) k) (both (has M x k) (stays M k x es) s .0)
+  stay-now (calls c ∷ es) x k s = some-is (M .keys) (look (M .keys) (M .table x) (M .size) k) (both (has M x k) (not (M .wipes x c) && stays M k (M .after x c) es) s .0)
 
   -- a key that stays, stays in its slot; and it is handed out exactly when the walk passes that slot
   stay-slot : (es : List (Event (M .Call))) (x : M .State) → O .Fine x → (k : K) (i : ℕ) (v : W) → i < M .size → M .table x i ≡ live k v → stays M k x es ≡ true → (w : W) × (M .table (stateAfter M x es) i ≡ live k w)
   unfolding stays stateAfter
   stay-slot [] x f k i v l e s = (v, e)
-  stay-slot (steps b ∷ es) x f k i v l e s = stay-slot es x f k i v l e (both-right (has M x k) (stays M k x es) s)
+  stay-slot (steps b ∷ es) x f k i v l e s = stay-slot es x f k i v l e (both (has M x k) (stays M k x es) s .1)
   stay-slot (calls c ∷ es) x f k i v l e s =
-      let a = both-right (has M x k) (not (M .wipes x c) && stays M k (M .after x c) es) s in
-      let r = both-right (not (M .wipes x c)) (stays M k (M .after x c) es) a in
+      let a = both (has M x k) (not (M .wipes x c) && stays M k (M .after x c) es) s .1 in
+      let r = both (not (M .wipes x c)) (stays M k (M .after x c) es) a .1 in
       let (w, p) = stay-now es (M .after x c) k r in
-      stay-slot es (M .after x c) (O .after-fine x c f) k i w l (O .stands x c f (not-true (M .wipes x c) (both-left (not (M .wipes x c)) (stays M k (M .after x c) es) a)) i k v w l e p) r
+      stay-slot es (M .after x c) (O .after-fine x c f) k i w l (O .stands x c f (not-true (M .wipes x c) (both (not (M .wipes x c)) (stays M k (M .after x c) es) a .0)) i k v w l e p) r
 
   stepped-past : (x : M .State) (q : M .Ticket) (w b : ℕ) → O .Fine x → (k : K) (i : ℕ) (v : W) → i < M .size → M .table x i ≡ live k v → handsOut (M .keys) k (stepped M x q w b) + past i w ≡ past i (movedBy w (stepped M x q w b))
   unfolding stepped
@@ -153,13 +145,13 @@ module _ {K W : Type 0} (M : Machine K W) (O : Orderly M) where
   times-past [] x q w f k i v l e s = omega arith
   times-past (steps b ∷ es) x q w f k i v l e s =
       let one = stepped-past x q w b f k i v l e in
-      let rest = times-past es x q (movedBy w (stepped M x q w b)) f k i v l e (both-right (has M x k) (stays M k x es) s) in
+      let rest = times-past es x q (movedBy w (stepped M x q w b)) f k i v l e (both (has M x k) (stays M k x es) s .1) in
       omega (arith, one, rest)
   times-past (calls c ∷ es) x q w f k i v l e s =
-      let a = both-right (has M x k) (not (M .wipes x c) && stays M k (M .after x c) es) s in
-      let r = both-right (not (M .wipes x c)) (stays M k (M .after x c) es) a in
+      let a = both (has M x k) (not (M .wipes x c) && stays M k (M .after x c) es) s .1 in
+      let r = both (not (M .wipes x c)) (stays M k (M .after x c) es) a .1 in
       let (u, p) = stay-now es (M .after x c) k r in
-      times-past es (M .after x c) q w (O .after-fine x c f) k i u l (O .stands x c f (not-true (M .wipes x c) (both-left (not (M .wipes x c)) (stays M k (M .after x c) es) a)) i k v u l e p) r
+      times-past es (M .after x c) q w (O .after-fine x c f) k i u l (O .stands x c f (not-true (M .wipes x c) (both (not (M .wipes x c)) (stays M k (M .after x c) es) a .0)) i k v u l e p) r
 
   fine-after : (es : List (Event (M .Call))) (x : M .State) → O .Fine x → O .Fine (stateAfter M x es)
   unfolding stateAfter

@@ -7,7 +7,7 @@ use mathlib.Core.Option.{Option, none, some}
 use native.Mathlib.Omega.{arith}
 use Rattle.model.specs.Slots.{Slot, never, freed, bad, live, Table, Keys, put, weigh, total, look}
 use Rattle.model.specs.Finite.{Finite, isSome, orElse, contains, member, Once, once-none, once-more, Proper, mass, select, empty, insert, remove, union-prefer-right}
-use Rattle.model.proofs.Cases.{by-bool, by-same}
+use Rattle.model.proofs.Cases.{by-bool, by-same, clash}
 use Rattle.model.proofs.Slots.{by-put, holds-live, look-some, look-gone, total-put}
 use Rattle.model.proofs.Change.{removed-look}
 
@@ -56,13 +56,13 @@ module _ {K : Type 0} (E : Keys K) where
   module _ {W : Type 0} where
     pub some-is : (o : Option W) → isSome o ≡ true → (v : W) × (o ≡ some v)
     unfolding isSome
-    some-is none e = let z : _≡_ {A = ℕ} 0 1 = cc in absurd (omega arith)
+    some-is none e = clash cc
     some-is (some v) e = (v, refl)
 
     none-is : (o : Option W) → isSome o ≡ false → o ≡ none
     unfolding isSome
     none-is none e = refl
-    none-is (some v) e = let z : _≡_ {A = ℕ} 0 1 = cc in absurd (omega arith)
+    none-is (some v) e = clash cc
 
     pub empty-proper : Proper {W = W} E empty
     unfolding empty contains member isSome
@@ -129,9 +129,9 @@ module _ {K W : Type 0} (g : K → ℕ) where
 
   once-put : {S : ℕ} {t : Table K W} (x : ℕ) → ((i j : ℕ) (k : K) (v w : W) → i < S → j < S → t i ≡ live k v → t j ≡ live k w → i ≡ j) → (i j : ℕ) (k : K) (v w : W) → i < S → j < S → put t x freed i ≡ live k v → put t x freed j ≡ live k w → i ≡ j
   once-put {S} {t} x once i j k v w a b p q = by-put t x freed i
-      (λ e r. let z : _≡_ {A = ℕ} 0 1 = cc in absurd (omega arith))
+      (λ e r. clash cc)
       (λ e r. by-put t x freed j
-      (λ e′ r′. let z : _≡_ {A = ℕ} 0 1 = cc in absurd (omega arith))
+      (λ e′ r′. clash cc)
       (λ e′ r′. once i j k v w a b (sym r ∙ p) (sym r′ ∙ q)))
 
   -- where each live key stands once, and the list has just the live keys, each once, the totals agree
@@ -139,7 +139,7 @@ module _ {K W : Type 0} (g : K → ℕ) where
   unfolding mass member isSome weigh
   total-mass E S [] t once o h = total-dead t S (λ i l a v e.
       let z : _≡_ {A = Bool} true false = sym (holds-live E a (t i) v e) ∙ look-gone E a t S i (none-is E (look E t S a) (sym (h a))) l in
-      let y : _≡_ {A = ℕ} 0 1 = cc in omega arith)
+      clash cc)
   total-mass E S (k ∷ ks) t once (once-more m o) h =
       let (v, p) = some-is E (look E t S k) (sym (h k) ∙ (rw (E .self k))) in
       let (i, l, q) = look-some E k t S v p in

@@ -12,7 +12,7 @@ use Rattle.model.specs.Calls.{Or, no, ok}
 use Rattle.model.specs.Walk.{Paced, halts, step, movedBy}
 use Rattle.model.specs.Demand3.{Machine, pairFrom, has, stepped, walkAfter, times, handed, stays, Walked, Orderly}
 use Rattle.model.specs.Iterated.{budgets, seconds, Iterated}
-use Rattle.model.proofs.Cases.{by-lt}
+use Rattle.model.proofs.Cases.{by-lt, clash}
 use Rattle.model.proofs.Slots.{look-some}
 use Rattle.model.proofs.Sound.{once-look}
 use Rattle.model.proofs.Walk.{Strode, strode-pair, strode-nothing, strode-done, strode}
@@ -24,7 +24,7 @@ module _ {K W : Type 0} where
   idle-pair never e = refl
   idle-pair freed e = refl
   idle-pair bad e = refl
-  idle-pair (live a v) e = let z : _≡_ {A = ℕ} 0 1 = cc in absurd (omega arith)
+  idle-pair (live a v) e = clash cc
 
   -- slots that are not live add no pair
   pairs-gap : (t : Table K W) (w j : ℕ) → w ≤ j → ((i : ℕ) → w ≤ i → i < j → halts (t i) ≡ false) → pairs t j ≡ pairs t w

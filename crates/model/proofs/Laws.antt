@@ -21,7 +21,7 @@ use Rattle.model.specs.Demand2.{plain, refuses, renews}
 use Rattle.model.specs.Demand3.{Event, unrefused, stepped, stateAfter, walkAfter}
 use Rattle.model.specs.Tables.{sweeps, tables, AllSound}
 use Rattle.model.specs.Lawful.{Lawful, Healthy, Shows}
-use Rattle.model.proofs.Cases.{by-bool, by-lt, by-eq}
+use Rattle.model.proofs.Cases.{by-bool, by-lt, by-eq, both, clash}
 use Rattle.model.proofs.Slots.{put-same}
 use Rattle.model.proofs.Path.{at-below, hit-at, hit-examined, miss-examined, examined-low, examined-high, free-before, free-here, free-high}
 use Rattle.model.proofs.Sound.{sound-look, no-free-full, full-no-free}
@@ -50,13 +50,13 @@ module _ {A : Type 0} where
 refused-with : {K W : Type 0} (a : Answer K W) → refuses a ≡ true → (n : ℕ) × (a ≡ refused n)
 unfolding refuses
 refused-with (refused n) e = (n, refl)
-refused-with fine e = let z : _≡_ {A = ℕ} 0 1 = cc in absurd (omega arith)
-refused-with (number x) e = let z : _≡_ {A = ℕ} 0 1 = cc in absurd (omega arith)
-refused-with (truth x) e = let z : _≡_ {A = ℕ} 0 1 = cc in absurd (omega arith)
-refused-with (seen x) e = let z : _≡_ {A = ℕ} 0 1 = cc in absurd (omega arith)
-refused-with (spot x) e = let z : _≡_ {A = ℕ} 0 1 = cc in absurd (omega arith)
-refused-with (value x) e = let z : _≡_ {A = ℕ} 0 1 = cc in absurd (omega arith)
-refused-with (paced x) e = let z : _≡_ {A = ℕ} 0 1 = cc in absurd (omega arith)
+refused-with fine e = clash cc
+refused-with (number x) e = clash cc
+refused-with (truth x) e = clash cc
+refused-with (seen x) e = clash cc
+refused-with (spot x) e = clash cc
+refused-with (value x) e = clash cc
+refused-with (paced x) e = clash cc
 
 -- an answer is a refusal exactly when it is a refusal's number and nothing else
 pub refuses-is : {K W : Type 0} (a : Answer K W) → (refuses a ≡ true) ↔ ((n : ℕ) × (a ≡ refused n))
@@ -137,7 +137,7 @@ module _ {K W : Type 0} (M : Store K W) where
       (missing f p (told M m k), sym (miss-examined (M .keys) (M .size m) (M .home m k) (M .slots m) k e f p))
     where
       missing : (f : ℕ) → path M m k ≡ miss e f → Told M m k → Absent M m k
-      missing f p (told-hit n v r b a) = let z : _≡_ {A = ℕ} 0 1 = cc in absurd (omega arith)
+      missing f p (told-hit n v r b a) = clash cc
       missing f p (told-miss x y r b a) = a
       missing f p (told-hurt r b a) = a
 
@@ -169,7 +169,7 @@ module _ {K W : Type 0} (M : Store K W) where
   lacking-absent m k = go (told M m k)
     where
       go : Told M m k → (lacking M m k ≡ true) ↔ Absent M m k
-      go (told-hit n v p b a) = ((λ e. let c : _≡_ {A = Bool} false true = rw p at e in let z : _≡_ {A = ℕ} 0 1 = cc in absurd (omega arith)), (λ x. absurd (a x)))
+      go (told-hit n v p b a) = ((λ e. let c : _≡_ {A = Bool} false true = rw p at e in clash cc), (λ x. absurd (a x)))
       go (told-miss e f p b a) = ((λ x. a), (λ x. rw p))
       go (told-hurt p b a) = ((λ x. a), (λ x. rw p))
 
@@ -230,7 +230,7 @@ module _ {K W : Type 0} (M : Store K W) where
           (λ c x. let z : _≡_ {A = Or (Unit {0})} (no 5) (no n) = rw x at t in let y : n ≡ 5 = cc in omega arith)
           (λ c x. let z : _≡_ {A = Or (Unit {0})} (no 6) (no n) = rw x at t in let y : n ≡ 6 = cc in omega arith)
       small (ok (occupied x w e)) t = let y : n ≡ 6 = cc in omega arith
-      small (ok (vacant x e)) t = ⊎-elim (λ c. omega arith) (λ c. let z : _≡_ {A = ℕ} 0 1 = cc in absurd (omega arith)) (need-no (eqb s x) 6 (ok (tt {0})) n t)
+      small (ok (vacant x e)) t = ⊎-elim (λ c. omega arith) (λ c. clash cc) (need-no (eqb s x) 6 (ok (tt {0})) n t)
 
   -- an occupied handle is good exactly when its slot is live and holds that key now; then it reads the value there
   pub occupied-good : (m : M .State) (s : ℕ) (k : K) (v : W) → M .sized m ≡ true → M .asked k ≡ 0 → (occupied-get M m s k ≡ ok v) ↔ ((s < M .size m) × (M .slots m s ≡ live k v))
@@ -307,7 +307,7 @@ module _ {K W : Type 0} (M : Store K W) (L : Lawful M) (m : M .State) (f : Finit
           let d : w ≡ v = cc in
           let x : suc n ≡ pathLength M m k = sym (hit-examined (M .keys) (M .size m) (M .home m k) (M .slots m) k n w p) in
           (slotAt M m k n, c ∙ ap (λ y. live k y) d, rw (s .healthy .sized, a, p) (ap (λ y. ok (found y (slotAt M m k n) (suc n))) d ∙ ap (λ y. ok (found v (slotAt M m k n) y)) x))
-      go (gone p q) = let z : _≡_ {A = ℕ} 0 1 = cc in absurd (omega arith)
+      go (gone p q) = clash cc
 
   -- or absent, with that number
   pub get-absent : (k : K) → M .asked k ≡ 0 → f .look k ≡ none → get M m k ≡ ok (absent (pathLength M m k))
@@ -315,7 +315,7 @@ module _ {K W : Type 0} (M : Store K W) (L : Lawful M) (m : M .State) (f : Finit
   get-absent k a e = go (path-of M L m f s k)
     where
       go : PathOf M L m f s k → get M m k ≡ ok (absent (pathLength M m k))
-      go (here n w p q l c) = let z : _≡_ {A = ℕ} 0 1 = cc in absurd (omega arith)
+      go (here n w p q l c) = clash cc
       go (gone p q) = rw (s .healthy .sized, a, p)
 
   -- an accepted insert maps the key to the value, and nothing else
@@ -333,7 +333,7 @@ module _ {K W : Type 0} (M : Store K W) (L : Lawful M) (m : M .State) (f : Finit
   vacant-absent k i e q = let (x, p, r, l, u) = spot-vacant M m k i e (entry-spot M m k (vacant i e) q) in go x p (path-of M L m f s k)
     where
       go : (x : ℕ) → path M m k ≡ miss e x → PathOf M L m f s k → f .look k ≡ none
-      go x p (here n w c d l t) = let z : _≡_ {A = ℕ} 0 1 = cc in absurd (omega arith)
+      go x p (here n w c d l t) = clash cc
       go x p (gone c d) = d
 
   -- an occupied handle reads the map's value
@@ -378,12 +378,12 @@ module _ {K W : Type 0} (M : Store K W) (L : Lawful M) (m : M .State) (f : Finit
   keyless : (ks : List K) → ((k : K) → member (M .keys) k ks ≡ false) → mass (λ k. 1) ks ≡ 0
   unfolding mass member
   keyless [] h = refl
-  keyless (a ∷ ks) h = let c : _≡_ {A = Bool} true false = rw (M .keys .self a) at (h a) in let z : _≡_ {A = ℕ} 0 1 = cc in absurd (omega arith)
+  keyless (a ∷ ks) h = let c : _≡_ {A = Bool} true false = rw (M .keys .self a) at (h a) in clash cc
 
   not-some : (o : Option W) → isSome o ≡ false → o ≡ none
   unfolding isSome
   not-some none e = refl
-  not-some (some v) e = let z : _≡_ {A = ℕ} 0 1 = cc in absurd (omega arith)
+  not-some (some v) e = clash cc
 
   -- that is, whether the map gives no key a value
   pub is-empty-exactly : (tells M m empties ≡ truth true) ↔ ((k : K) → f .look k ≡ none)
@@ -435,8 +435,8 @@ module _ {K W : Type 0} (M : Store K W) (L : Lawful M) (m : M .State) (f : Finit
   insert-refused k n y = go (entry-of k y)
     where
       go : EntryOf k → (entry M m k ≡ no n) ↔ ((f .look k ≡ none) × (((n ≡ 7) × (len f ≡ M .size m)) ⊎ ((n ≡ 8) × (len f < M .size m) × (M .bytes m < mass (M .weight) (f .dom) + M .weight k))))
-      go (is-occupied i v e q r) = ((λ c. let z : _≡_ {A = ℕ} 0 1 = cc in absurd (omega arith)), (λ (c, d). let z : _≡_ {A = ℕ} 0 1 = cc in absurd (omega arith)))
-      go (is-vacant i e l u r) = ((λ c. let z : _≡_ {A = ℕ} 0 1 = cc in absurd (omega arith)), (λ (c, d). absurd (⊎-elim (λ x. omega arith) (λ x. omega arith) d)))
+      go (is-occupied i v e q r) = ((λ c. clash cc), (λ (c, d). clash cc))
+      go (is-vacant i e l u r) = ((λ c. clash cc), (λ (c, d). absurd (⊎-elim (λ x. omega arith) (λ x. omega arith) d)))
       go (is-full e l r) = ((λ c. (e, inl (cc, l))), (λ (c, d). ⊎-elim (λ x. r ∙ ap (λ i. no i) (sym (x .0))) (λ x. absurd (omega arith)) d))
       go (is-tight e l u r) = ((λ c. (e, inr (cc, l, u))), (λ (c, d). ⊎-elim (λ x. absurd (omega arith)) (λ x. r ∙ ap (λ i. no i) (sym (x .0))) d))
 
@@ -492,7 +492,7 @@ module _ {K W : Type 0} (M : Store K W) (L : Lawful M) (asked-else : (k : K) →
     no-bad-on-path k (j, l, e) = h .sound .whole (slotAt M m k j) (at-below (M .size m) (M .home m k) j (home-below M L m h k) (omega (arith, examined-high (M .keys) (M .size m) (M .home m k) (M .slots m) k))) e
 
     no-harm : M .harmed m ≡ true → ⊥
-    no-harm e = let q = L .unharmed m (h .sized) (h .good) (h .sound) in let z : _≡_ {A = ℕ} 0 1 = cc in omega arith
+    no-harm e = let q = L .unharmed m (h .sized) (h .good) (h .sound) in clash cc
 
     no-harm-on-path : (k : K) → (M .harmed m ≡ true) ⊎ BadOnPath M m k → ⊥
     no-harm-on-path k (inl e) = no-harm e
@@ -549,10 +549,6 @@ module _ {K W : Type 0} (M : Store K W) (L : Lawful M) (asked-else : (k : K) →
 
 -- What the walk of demand 3 is made of.
 module _ {K W : Type 0} (M : Store K W) where
-  both : (a b : Bool) → (a && b) ≡ true → (a ≡ true) × (b ≡ true)
-  both true b e = (refl, e)
-  both false b e = let z : _≡_ {A = ℕ} 0 1 = cc in absurd (omega arith)
-
   -- make, clear, or a copy onto the table
   abbrev pub Renewal : Call K W → Type 0
   Renewal c = (c ≡ own makes) ⊎ ((c ≡ own clears) ⊎ ((y : ℕ) × (c ≡ copies y)))
@@ -561,24 +557,24 @@ module _ {K W : Type 0} (M : Store K W) where
   unfolding sweeps renews
   swept (own makes) e = inl refl
   swept (own clears) e = inr (inl refl)
-  swept (own capacities) e = let z : _≡_ {A = ℕ} 0 1 = cc in absurd (omega arith)
-  swept (own lens) e = let z : _≡_ {A = ℕ} 0 1 = cc in absurd (omega arith)
-  swept (own empties) e = let z : _≡_ {A = ℕ} 0 1 = cc in absurd (omega arith)
-  swept (own (reserves n)) e = let z : _≡_ {A = ℕ} 0 1 = cc in absurd (omega arith)
-  swept (own (gets k)) e = let z : _≡_ {A = ℕ} 0 1 = cc in absurd (omega arith)
-  swept (own (contains-keys k)) e = let z : _≡_ {A = ℕ} 0 1 = cc in absurd (omega arith)
-  swept (own (removes k)) e = let z : _≡_ {A = ℕ} 0 1 = cc in absurd (omega arith)
-  swept (own (entries k)) e = let z : _≡_ {A = ℕ} 0 1 = cc in absurd (omega arith)
-  swept (own (inserts k v)) e = let z : _≡_ {A = ℕ} 0 1 = cc in absurd (omega arith)
-  swept (own (occupied-gets i k)) e = let z : _≡_ {A = ℕ} 0 1 = cc in absurd (omega arith)
-  swept (own (occupied-removes i k)) e = let z : _≡_ {A = ℕ} 0 1 = cc in absurd (omega arith)
-  swept (own (occupied-sets i k v)) e = let z : _≡_ {A = ℕ} 0 1 = cc in absurd (omega arith)
-  swept (own (vacant-inserts i k v)) e = let z : _≡_ {A = ℕ} 0 1 = cc in absurd (omega arith)
-  swept (own (or-inserts h k v)) e = let z : _≡_ {A = ℕ} 0 1 = cc in absurd (omega arith)
-  swept (own (insert-entries h k v)) e = let z : _≡_ {A = ℕ} 0 1 = cc in absurd (omega arith)
+  swept (own capacities) e = clash cc
+  swept (own lens) e = clash cc
+  swept (own empties) e = clash cc
+  swept (own (reserves n)) e = clash cc
+  swept (own (gets k)) e = clash cc
+  swept (own (contains-keys k)) e = clash cc
+  swept (own (removes k)) e = clash cc
+  swept (own (entries k)) e = clash cc
+  swept (own (inserts k v)) e = clash cc
+  swept (own (occupied-gets i k)) e = clash cc
+  swept (own (occupied-removes i k)) e = clash cc
+  swept (own (occupied-sets i k v)) e = clash cc
+  swept (own (vacant-inserts i k v)) e = clash cc
+  swept (own (or-inserts h k v)) e = clash cc
+  swept (own (insert-entries h k v)) e = clash cc
   swept (copies y) e = inr (inr (y, refl))
-  swept (unions y) e = let z : _≡_ {A = ℕ} 0 1 = cc in absurd (omega arith)
-  swept (steps a b) e = let z : _≡_ {A = ℕ} 0 1 = cc in absurd (omega arith)
+  swept (unions y) e = clash cc
+  swept (steps a b) e = clash cc
 
   sweeping : (c : Call K W) → Renewal c → sweeps M c ≡ true
   unfolding sweeps renews
@@ -621,26 +617,26 @@ module _ {K W : Type 0} (M : Store K W) (m : M .State) (a b : ℕ) where
           let y : x ≡ suc j = cc in
           let z : e ≡ suc j - a = cc in
           (j, l, h, t ∙ ap (λ z. live z v′) (cc) ∙ ap (λ z. live k z) (cc), c, y, omega arith, omega arith)
-      go (strode-nothing j l h u c d) = let z : _≡_ {A = ℕ} 0 1 = cc in absurd (omega arith)
-      go (strode-done h d) = let z : _≡_ {A = ℕ} 0 1 = cc in absurd (omega arith)
+      go (strode-nothing j l h u c d) = clash cc
+      go (strode-done h d) = clash cc
 
   -- nothing: no live slot among b slots, or up to S; all of them are passed and counted
   pub step-nothing : (x e : ℕ) → stepping M m a b ≡ ok (nothing x e) → (x ≡ min (a + b) (M .size m)) × (a < x) × (a + e ≡ x) × ((i : ℕ) → a ≤ i → i < x → halts (M .slots m i) ≡ false)
   step-nothing x e q = go (strode-from (nothing x e) q)
     where
       go : Strode (M .size m) (M .slots m) a b (nothing x e) → (x ≡ min (a + b) (M .size m)) × (a < x) × (a + e ≡ x) × ((i : ℕ) → a ≤ i → i < x → halts (M .slots m i) ≡ false)
-      go (strode-pair j k′ v′ l h u t c d) = let z : _≡_ {A = ℕ} 0 1 = cc in absurd (omega arith)
+      go (strode-pair j k′ v′ l h u t c d) = clash cc
       go (strode-nothing j l h u c d) =
           let y : x ≡ j = cc in
           let z : e ≡ j - a = cc in
           (omega arith, omega arith, omega arith, λ i n o. c i n (omega arith))
-      go (strode-done h d) = let z : _≡_ {A = ℕ} 0 1 = cc in absurd (omega arith)
+      go (strode-done h d) = clash cc
 
   -- done: the walk stands at S, and stays there
   pub step-done : (x : ℕ) → stepping M m a b ≡ ok (done x) → (a ≡ M .size m) × (x ≡ a)
   step-done x q = go (strode-from (done x) q)
     where
       go : Strode (M .size m) (M .slots m) a b (done x) → (a ≡ M .size m) × (x ≡ a)
-      go (strode-pair j k′ v′ l h u t c d) = let z : _≡_ {A = ℕ} 0 1 = cc in absurd (omega arith)
-      go (strode-nothing j l h u c d) = let z : _≡_ {A = ℕ} 0 1 = cc in absurd (omega arith)
+      go (strode-pair j k′ v′ l h u t c d) = clash cc
+      go (strode-nothing j l h u c d) = clash cc
       go (strode-done h d) = (h, cc)

@@ -5,6 +5,7 @@ use mathlib.Core.List.{List, _∷_}
 use mathlib.Core.Logic.{_⊎_, inl, inr, ⊎-elim}
 use mathlib.Core.Path.{_≡_, refl, sym, _∙_, subst}
 use native.Mathlib.Omega.{arith}
+use Rattle.model.proofs.Cases.{clash}
 use Rattle.model.specs.Store.{Store}
 use Rattle.model.specs.Calls.{Or, no, ok, give, Seen, Spot, on-occupied, on-vacant, entry, storedBy, after-insert, remove, removedBy, after-remove, acted, capacity, after-make, copy, after-copy, union, after-union, occupied-get, after-set, occupied-remove, after-drop, vacancy, vacant-insert, after-fill, or-insert, after-or-insert, insert-entry, after-insert-entry}
 use Rattle.model.specs.Machine.{Own, makes, clears, capacities, lens, empties, reserves, gets, contains-keys, removes, entries, inserts, occupied-gets, occupied-removes, occupied-sets, vacant-inserts, or-inserts, insert-entries, Call, own, copies, unions, steps, Answer, fine, seen, spot, value, report, World, tells, leaves, answer, left}
@@ -85,22 +86,22 @@ module _ {K W : Type 0} (M : Store K W) where
   still : {A : Type 0} (say : A → Answer K W) → ((a : A) → refuses (say a) ≡ false) → (m : M .State) (a : Or A) (n : M .State) → refuses (report say a) ≡ true → acted M m a n ≡ m
   unfolding acted report refuses
   still say f m (no r) n e = refl
-  still say f m (ok u) n e = let c : _≡_ {A = Bool} true false = sym e ∙ f u in let z : _≡_ {A = ℕ} 0 1 = cc in absurd (omega arith)
+  still say f m (ok u) n e = let c : _≡_ {A = Bool} true false = sym e ∙ f u in clash cc
 
   still-given : {A : Type 0} (v : W) (m : M .State) (a : Or A) (n : M .State) → refuses (report {K = K} value (give v a)) ≡ true → acted M m a n ≡ m
   unfolding acted report refuses give
   still-given v m (no r) n e = refl
-  still-given v m (ok u) n e = let z : _≡_ {A = ℕ} 0 1 = cc in absurd (omega arith)
+  still-given v m (ok u) n e = clash cc
 
   still-stored : (m : M .State) (k : K) (v : W) (a : Or (Spot W)) → refuses (report {K = K} spot a) ≡ true → storedBy M m k v a ≡ m
   unfolding storedBy report refuses
   still-stored m k v (no r) e = refl
-  still-stored m k v (ok u) e = let z : _≡_ {A = ℕ} 0 1 = cc in absurd (omega arith)
+  still-stored m k v (ok u) e = clash cc
 
   still-removed : (m : M .State) (a : Or (Seen W)) → refuses (report {K = K} seen a) ≡ true → removedBy M m a ≡ m
   unfolding removedBy report refuses
   still-removed m (no r) e = refl
-  still-removed m (ok u) e = let z : _≡_ {A = ℕ} 0 1 = cc in absurd (omega arith)
+  still-removed m (ok u) e = clash cc
 
   own-still : (m : M .State) (c : Own K W) → refuses (tells M m c) ≡ true → leaves M m c ≡ m
   unfolding tells leaves refuses after-make after-insert after-remove after-set after-drop after-fill vacant-insert or-insert after-or-insert insert-entry after-insert-entry

@@ -7,7 +7,7 @@ use borrow.Author.Tests.{lt-ltb, le-ltb}
 use lib.Dec.{ltb}
 use Rattle.model.specs.Slots.{Slot, never, freed, bad, live, Table, Keys, frees}
 use Rattle.model.specs.Path.{from, at, stops, Find, hit, miss, hurt, ends, stopAt, freeAt, find, firstFree, onSlot, probe, examined}
-use Rattle.model.proofs.Cases.{by-bool, by-lt}
+use Rattle.model.proofs.Cases.{by-bool, by-lt, clash}
 
 pub from-low : (f : ℕ → Bool) (g n : ℕ) → n ≤ from f g n
 unfolding from
@@ -195,9 +195,9 @@ module _ {K W : Type 0} (E : Keys K) (S h : ℕ) (t : Table K W) (k : K) where
   unfolding examined
   examined-stop j l e = by-lt (stopAt E S h t k) S
       (λ c x. by-lt j (stopAt E S h t k)
-      (λ d y. let z : _≡_ {A = Bool} true false = sym e ∙ stop-before j d in let n : _≡_ {A = ℕ} 0 1 = cc in absurd (omega arith))
+      (λ d y. let z : _≡_ {A = Bool} true false = sym e ∙ stop-before j d in clash cc)
       (λ d y. (omega (arith, rw x at l), c)))
-      (λ c x. let z : _≡_ {A = Bool} true false = sym e ∙ stop-before j (omega (arith, rw x at l)) in let n : _≡_ {A = ℕ} 0 1 = cc in absurd (omega arith))
+      (λ c x. let z : _≡_ {A = Bool} true false = sym e ∙ stop-before j (omega (arith, rw x at l)) in clash cc)
 
 module _ {K W : Type 0} (S h : ℕ) (t : Table K W) where
   pub free-before : (m : ℕ) → m < freeAt S h t → frees (t (at S h m)) ≡ false

@@ -5,6 +5,7 @@ use mathlib.Core.List.{List, [], _∷_}
 use mathlib.Core.Path.{_≡_, refl, _∙_}
 use native.Mathlib.Omega.{arith}
 use borrow.Author.Tests.{lt-ltb}
+use Rattle.model.proofs.Cases.{neither, clash}
 use Rattle.model.specs.Slots.{pairs}
 use Rattle.model.specs.Path.{Find, hit, miss, hurt}
 use Rattle.model.specs.Store.{Store, path, slotAt}
@@ -18,12 +19,8 @@ use Rattle.model.proofs.Keeps.{path-live}
 use Rattle.model.proofs.Running.{Roomy, slot-left, bytes-there, free-slot, one-more, union-roomy}
 
 not-false : (b : Bool) → not b ≡ true → b ≡ false
-not-false true e = let z : _≡_ {A = ℕ} 0 1 = cc in absurd (omega arith)
+not-false true e = clash cc
 not-false false e = refl
-
-either : (a b : Bool) → cond a true b ≡ false → (a ≡ false) × (b ≡ false)
-either true b e = let z : _≡_ {A = ℕ} 0 1 = cc in absurd (omega arith)
-either false b e = (refl, e)
 
 module _ {K W : Type 0} (M : Store K W) (P : Places M) (A : Apart M P) (T : Steady M) (p : P .Place) where
   -- a storing call's tests passed
@@ -80,7 +77,7 @@ module _ {K W : Type 0} (M : Store K W) (P : Places M) (A : Apart M P) (T : Stea
   all-kept : {B : Type 0} (m n : M .State) (a : Or B) → accepted a true ≡ false → P .word (acted M m a n) p ≡ P .word m p
   unfolding accepted acted
   all-kept m n (no r) d = refl
-  all-kept m n (ok x) d = let z : _≡_ {A = ℕ} 0 1 = cc in absurd (omega arith)
+  all-kept m n (ok x) d = clash cc
 
   own-kept : (m : M .State) (c : Own K W) → own-names M P p m c ≡ false → P .word (leaves M m c) p ≡ P .word m p
   unfolding own-names leaves handle-names after-make after-insert after-remove after-set after-drop after-fill after-or-insert after-insert-entry
@@ -116,7 +113,7 @@ module _ {K W : Type 0} (M : Store K W) (P : Places M) (A : Apart M P) (T : Stea
   unfolding all-names storeAll rule
   union-kept [] m r d = refl
   union-kept (q ∷ qs) m r d =
-      let (a, b) = either (rule-names M P p m (q .0) (path M m (q .0))) (all-names M P p (rule M m (q .0) (q .1)) qs) d in
+      let (a, b) = neither (rule-names M P p m (q .0) (path M m (q .0))) (all-names M P p (rule M m (q .0) (q .1)) qs) d in
       union-kept qs (rule M m (q .0) (q .1)) (one-more M T m (q .0) (q .1) qs r (path M m (q .0)) refl .1) b ∙ rule-kept m (q .0) (q .1) qs r (path M m (q .0)) refl a
 
   united : (l r : M .State) (a : Or (Unit {0})) → union M l r ≡ a → accepted a (all-names M P p l (pairs (M .slots r) (M .size r))) ≡ false → P .word (acted M l a (storeAll M l (pairs (M .slots r) (M .size r)))) p ≡ P .word l p

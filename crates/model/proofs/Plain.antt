@@ -9,7 +9,7 @@ use Rattle.model.specs.Finite.{mass, len, empty}
 use Rattle.model.specs.Calls.{ok, need, found, get, after-insert, acted, capacity, after-make}
 use Rattle.model.specs.Lawful.{Wrote, Lawful, Shows}
 use Rattle.model.specs.Plain.{Plain, revalued, reslotted, plain}
-use Rattle.model.proofs.Cases.{by-lt}
+use Rattle.model.proofs.Cases.{by-lt, clash}
 use Rattle.model.proofs.Slots.{total-put}
 use Rattle.model.proofs.Finite.{total-dead}
 use Rattle.model.proofs.Laws.{make-sound, EntryOf, is-occupied, is-vacant, is-full, is-tight, entry-of, get-after-insert}
@@ -41,7 +41,7 @@ module _ {K W : Type 0} (E : Keys K) (weight : K → ℕ) where
     over-wrote = λ m i k v w e g l q. rw q (wrote m (put (m .slots) i (live k v)) (omega (arith, total-put weight (m .slots) i (live k v) (m .size) l, ap (λ s. weigh weight s) q)));
     fill-wrote = λ m i k v e g l q u. wrote m (put (m .slots) i (live k v)) (omega (arith, total-put weight (m .slots) i (live k v) (m .size) l));
     free-wrote = λ m i k w e g l q. wrote m (put (m .slots) i freed) (omega (arith, total-put weight (m .slots) i freed (m .size) l));
-    wipe-wrote = λ m e. wrote m made (omega (arith, total-dead {W = W} weight made (m .size) (λ i l a v q. let z : _≡_ {A = ℕ} 0 1 = cc in omega arith)));
+    wipe-wrote = λ m e. wrote m made (omega (arith, total-dead {W = W} weight made (m .size) (λ i l a v q. clash cc)));
   }
 
   -- a made table has the sizes that it had
@@ -61,7 +61,7 @@ module _ {K W : Type 0} (E : Keys K) (weight : K → ℕ) where
       shown = make-sound (plain E weight) plain-lawful m (lt-ltb 0 (m .size) l)
 
       go : EntryOf (plain E weight) plain-lawful made-one empty shown k → (i e : ℕ) × (get (plain E weight) (after-insert (plain E weight) made-one k v) k ≡ ok (found v i e))
-      go (is-occupied i w e q r) = let z : _≡_ {A = ℕ} 0 1 = cc in absurd (omega arith)
+      go (is-occupied i w e q r) = clash cc
       go (is-vacant i e c d r) = let (j, g) = get-after-insert (plain E weight) plain-lawful made-one empty shown k v _ r refl in (j, _, g)
       go (is-full e c r) = absurd (omega (arith, made-sizes m l))
       go (is-tight e c d r) = absurd (omega (arith, made-sizes m l))

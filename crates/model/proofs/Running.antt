@@ -13,16 +13,13 @@ use Rattle.model.specs.Store.{Store, path, slotAt, live-count, used, hur
 use Rattle.model.specs.Calls.{ok, need, Spot, occupied, vacant, spotBy, ruleBy, rule, missed, lacking, needs, ruined, union}
 use Rattle.model.specs.Lawful.{Wrote, Steady}
 use Rattle.model.specs.Running.{Running}
-use Rattle.model.proofs.Cases.{by-bool, by-lt, by-eq, by-same}
+use Rattle.model.proofs.Cases.{by-bool, by-lt, by-eq, by-same, clash}
 use Rattle.model.proofs.Slots.{put-same, put-other, by-put, total-put, damaged-not, damaged-bad, count-high}
 use Rattle.model.proofs.Path.{place, place-below, at-place, at-once, at-below, stop-before, Ended, ended-hit, find-ended, hit-at, hurt-at, find-hit, free-here}
 use Rattle.model.proofs.Sound.{no-free-full}
 use Rattle.model.proofs.Accepted.{need-ok}
 use Rattle.model.proofs.Pairs.{total-pairs}
 use Rattle.model.proofs.Keeps.{path-live, path-free}
-
-clash : {A : Type 0} → _≡_ {A = ℕ} 0 1 → A
-clash e = absurd (omega arith)
 
 module _ {K W : Type 0} (E : Keys K) (S h : ℕ) (t : Table K W) where
   hit-before : (a : K) (n : ℕ) (w : W) → find E S h t a ≡ hit n w → (m : ℕ) → m < n → stops E a (t (at S h m)) ≡ false

@@ -7,7 +7,7 @@ use mathlib.Core.Logic.{_⊎_, inl, inr, ⊎-elim, _↔_}
 use native.Mathlib.Omega.{arith}
 use borrow.Author.Tests.{eq-eqb, ne-eqb}
 use Rattle.model.specs.Slots.{Slot, never, freed, bad, live, Table, Keys, put, frees, hurts, holds, weigh, total, count, damaged, valueIn, look}
-use Rattle.model.proofs.Cases.{by-bool, by-lt, by-eq}
+use Rattle.model.proofs.Cases.{by-bool, by-lt, by-eq, clash}
 
 module _ {K W : Type 0} (t : Table K W) (i : ℕ) (s : Slot K W) where
   pub put-same : put t i s i ≡ s
@@ -23,8 +23,8 @@ pub frees-is : {K W : Type 0} (s : Slot K W) → (frees s ≡ true) ↔ ((s ≡ 
 unfolding frees
 frees-is never = ((λ e. inl refl), (λ x. refl))
 frees-is freed = ((λ e. inr refl), (λ x. refl))
-frees-is bad = ((λ e. let z : _≡_ {A = ℕ} 0 1 = cc in absurd (omega arith)), (λ x. ⊎-elim (λ e. let z : _≡_ {A = ℕ} 0 1 = cc in absurd (omega arith)) (λ e. let z : _≡_ {A = ℕ} 0 1 = cc in absurd (omega arith)) x))
-frees-is (live a v) = ((λ e. let z : _≡_ {A = ℕ} 0 1 = cc in absurd (omega arith)), (λ x. ⊎-elim (λ e. let z : _≡_ {A = ℕ} 0 1 = cc in absurd (omega arith)) (λ e. let z : _≡_ {A = ℕ} 0 1 = cc in absurd (omega arith)) x))
+frees-is bad = ((λ e. clash cc), (λ x. ⊎-elim (λ e. clash cc) (λ e. clash cc) x))
+frees-is (live a v) = ((λ e. clash cc), (λ x. ⊎-elim (λ e. clash cc) (λ e. clash cc) x))
 
 -- which slot a changed table has at j
 pub by-put : {K W : Type 0} {A : Type 0} (t : Table K W) (i : ℕ) (s : Slot K W) (j : ℕ) → (j ≡ i → put t i s j ≡ s → A) → ((j ≡ i → ⊥) → put t i s j ≡ t j → A) → A
@@ -38,9 +38,9 @@ module _ {K W : Type 0} (E : Keys K) (k : K) where
   -- a slot that holds the key is live with it and some value
   pub holds-value : (s : Slot K W) → holds E k s ≡ true → (v : W) × (s ≡ live k v)
   unfolding holds
-  holds-value never e = let z : _≡_ {A = ℕ} 0 1 = cc in absurd (omega arith)
-  holds-value freed e = let z : _≡_ {A = ℕ} 0 1 = cc in absurd (omega arith)
-  holds-value bad e = let z : _≡_ {A = ℕ} 0 1 = cc in absurd (omega arith)
+  holds-value never e = clash cc
+  holds-value freed e = clash cc
+  holds-value bad e = clash cc
   holds-value (live a v) e = (v, ap (λ b. live b v) (sym (E .right k a e)))
 
   pub lacks : (s : Slot K W) → ((v : W) → s ≡ live k v → ⊥) → holds E k s ≡ false
@@ -73,7 +73,7 @@ module _ {K W : Type 0} (E : Keys K) (k : K) where
 
     pub look-some : (n : ℕ) (v : W) → look E t n k ≡ some v → (i : ℕ) × (i < n) × (t i ≡ live k v)
     unfolding look
-    look-some zero v e = let z : _≡_ {A = ℕ} 0 1 = cc in absurd (omega arith)
+    look-some zero v e = clash cc
     look-some (suc n) v e = by-bool (holds E k (t n))
         (λ p. let (w, q) = holds-value (t n) p in
         let r : some w ≡ some v = sym (value-holds (t n) (look E t n k) w q) ∙ e in
@@ -86,7 +86,7 @@ module _ {K W : Type 0} (E : Keys K) (k : K) where
     look-gone (suc n) i e l = by-bool (holds E k (t n))
         (λ p. let (w, q) = holds-value (t n) p in
         let r : some w ≡ none = sym (value-holds (t n) (look E t n k) w q) ∙ e in
-        let z : _≡_ {A = ℕ} 0 1 = cc in absurd (omega arith))
+        clash cc)
         (λ p. by-lt i n (λ l′ x. look-gone n i (sym (value-lacks (t n) (look E t n k) p) ∙ e) l′) (λ l′ x. let q : i ≡ n = omega arith in rw q p))
 
 module _ {K W : Type 0} (g : K → ℕ) where
@@ -166,14 +166,14 @@ module _ {K W : Type 0} where
 
   bad-hurts : (s : Slot K W) → hurts s ≡ true → s ≡ bad
   unfolding hurts
-  bad-hurts never e = let z : _≡_ {A = ℕ} 0 1 = cc in absurd (omega arith)
-  bad-hurts freed e = let z : _≡_ {A = ℕ} 0 1 = cc in absurd (omega arith)
+  bad-hurts never e = clash cc
+  bad-hurts freed e = clash cc
   bad-hurts bad e = refl
-  bad-hurts (live a v) e = let z : _≡_ {A = ℕ} 0 1 = cc in absurd (omega arith)
+  bad-hurts (live a v) e = clash cc
 
   pub damaged-where : (t : Table K W) (n : ℕ) → damaged t n ≡ true → (i : ℕ) × (i < n) × (t i ≡ bad)
   unfolding damaged
-  damaged-where t zero e = let z : _≡_ {A = ℕ} 0 1 = cc in absurd (omega arith)
+  damaged-where t zero e = clash cc
   damaged-where t (suc n) e = by-bool (hurts (t n))
       (λ p. (n, omega arith, bad-hurts (t n) p))
       (λ p. let (i, l, q) = damaged-where t n (rw p at e) in (i, omega arith, q))

@@ -7,16 +7,16 @@ use native.Mathlib.Omega.{arith}
 use Rattle.model.specs.Slots.{Slot, never, freed, bad, live, Table, Keys, put, made, frees, weigh, count, look}
 use Rattle.model.specs.Path.{at, stops, Find, hit, miss, hurt, freeAt, find, examined}
 use Rattle.model.specs.Sound.{Sound}
-use Rattle.model.proofs.Cases.{by-bool}
+use Rattle.model.proofs.Cases.{by-bool, clash}
 use Rattle.model.proofs.Path.{place, at-below, at-once, at-place, place-below, hit-at, hurt-at, miss-round, miss-free, miss-examined, find-hit, free-before, free-unique, stop-before}
 use Rattle.model.proofs.Slots.{by-put, holds-live, lacks, look-last, look-some, look-gone, count-full, full-count}
 
 pub made-sound : {K W : Type 0} (S : ℕ) (home : K → ℕ) → Sound {W = W} S home made
 unfolding made
 made-sound {K} {W} S home = record {
-  whole = λ i l e. let z : _≡_ {A = ℕ} 0 1 = cc in omega arith;
-  once = λ i j k v w a b p q. let z : _≡_ {A = ℕ} 0 1 = cc in absurd (omega arith);
-  reach = λ k v n m a b p q. let z : _≡_ {A = ℕ} 0 1 = cc in omega arith;
+  whole = λ i l e. clash cc;
+  once = λ i j k v w a b p q. clash cc;
+  reach = λ k v n m a b p q. clash cc;
 }
 
 stops-not : {K W : Type 0} (E : Keys K) (k : K) (s : Slot K W) → (s ≡ never → ⊥) → (s ≡ bad → ⊥) → ((v : W) → s ≡ live k v → ⊥) → stops E k s ≡ false
@@ -63,7 +63,7 @@ module _ {K W : Type 0} (E : Keys K) (S : ℕ) (home : K → ℕ) (homes : (k : 
   sound-miss k e = go (find E S (home k) t k) refl
     where
       go : (r : Find W) → find E S (home k) t k ≡ r → find E S (home k) t k ≡ miss (examined E S (home k) t k) (freeAt S (home k) t)
-      go (hit n v) q = let p : some v ≡ none = sym (sound-here k n v q) ∙ e in let z : _≡_ {A = ℕ} 0 1 = cc in absurd (omega arith)
+      go (hit n v) q = let p : some v ≡ none = sym (sound-here k n v q) ∙ e in clash cc
       go (miss x f) q = rw (miss-examined E S (home k) t k x f q, ← miss-free E S (home k) t k x f q) q
       go hurt q = absurd (sound-whole k q)
 
@@ -73,14 +73,14 @@ module _ {K W : Type 0} (E : Keys K) (S : ℕ) (home : K → ℕ) (homes : (k : 
     where
       go : (o : Option W) → look E t S k ≡ o → look E t S k ≡ none
       go none p = p
-      go (some v) p = let (n, r) = sound-found k v p in let z : _≡_ {A = ℕ} 0 1 = cc in absurd (omega arith)
+      go (some v) p = let (n, r) = sound-found k v p in clash cc
 
 -- what a slot that neither ends a path nor is free weighs
 live-one : {K W : Type 0} (E : Keys K) (k : K) (s : Slot K W) → stops E k s ≡ false → frees s ≡ false → weigh (λ k. 1) s ≡ 1
 unfolding stops frees weigh
-live-one E k never a b = let z : _≡_ {A = ℕ} 0 1 = cc in absurd (omega arith)
-live-one E k freed a b = let z : _≡_ {A = ℕ} 0 1 = cc in absurd (omega arith)
-live-one E k bad a b = let z : _≡_ {A = ℕ} 0 1 = cc in absurd (omega arith)
+live-one E k never a b = clash cc
+live-one E k freed a b = clash cc
+live-one E k bad a b = clash cc
 live-one E k (live x v) a b = refl
 
 live-frees : {K W : Type 0} (s : Slot K W) (a : K) (v : W) → s ≡ live a v → frees s ≡ false
@@ -121,28 +121,28 @@ module _ {K W : Type 0} (E : Keys K) (S : ℕ) (home : K → ℕ) (homes : (k : 
   pub fresh-sound : (v : W) → look E t S k ≡ none → freeAt S (home k) t < S → Sound S home (put t (at S (home k) (freeAt S (home k) t)) (live k v))
   unfolding frees
   fresh-sound v e l = sound-put S home homes t o (at S (home k) (freeAt S (home k) t)) (at-below S (home k) (freeAt S (home k) t) (homes k) l) (live k v)
-      (λ q. let z : _≡_ {A = ℕ} 0 1 = cc in omega arith)
-      (λ q. let z : _≡_ {A = ℕ} 0 1 = cc in omega arith)
+      (λ q. clash cc)
+      (λ q. clash cc)
       (λ a x q j b c w p. let r : k ≡ a = cc in
       let z : _≡_ {A = Bool} true false = sym (holds-live E k (t j) w (p ∙ ap (λ y. live y w) (sym r))) ∙ look-gone E k t S j e b in
-      let y : _≡_ {A = ℕ} 0 1 = cc in omega arith)
+      clash cc)
       (λ a x q n m b c d p. let r : k ≡ a = cc in
       let c′ : at S (home k) n ≡ at S (home k) (freeAt S (home k) t) = subst (λ x. at S (home x) n ≡ at S (home k) (freeAt S (home k) t)) (sym r) c in
       let n′ : n ≡ freeAt S (home k) t = at-once S (home k) n (freeAt S (home k) t) (homes k) b l c′ in
       let p′ : t (at S (home k) m) ≡ never = rw r p in
       let z : _≡_ {A = Bool} true false = sym (ap frees p′) ∙ free-before S (home k) t m (omega arith) in
-      let y : _≡_ {A = ℕ} 0 1 = cc in omega arith)
+      clash cc)
 
   pub replaced-sound : (i : ℕ) (v w : W) → i < S → t i ≡ live k w → Sound S home (put t i (live k v))
   replaced-sound i v w l e = sound-put S home homes t o i l (live k v)
-      (λ q. let z : _≡_ {A = ℕ} 0 1 = cc in omega arith)
-      (λ q. let z : _≡_ {A = ℕ} 0 1 = cc in omega arith)
+      (λ q. clash cc)
+      (λ q. clash cc)
       (λ a x q j b c y p. let r : k ≡ a = cc in c (o .once j i k y w b l (p ∙ ap (λ z. live z y) (sym r)) e))
       (λ a x q n m b c d p. let r : k ≡ a = cc in o .reach a w n m b d ((rw c e) ∙ ap (λ z. live z w) r) p)
 
   pub removed-sound : (i : ℕ) → i < S → Sound S home (put t i freed)
   removed-sound i l = sound-put S home homes t o i l freed
-      (λ q. let z : _≡_ {A = ℕ} 0 1 = cc in omega arith)
-      (λ q. let z : _≡_ {A = ℕ} 0 1 = cc in omega arith)
-      (λ a x q j b c y p. let z : _≡_ {A = ℕ} 0 1 = cc in omega arith)
-      (λ a x q n m b c d p. let z : _≡_ {A = ℕ} 0 1 = cc in omega arith)
+      (λ q. clash cc)
+      (λ q. clash cc)
+      (λ a x q j b c y p. clash cc)
+      (λ a x q n m b c d p. clash cc)

@@ -17,7 +17,7 @@ use Rattle.model.specs.Demand2.{renews, refuses}
 use Rattle.model.specs.Demand3.{Walked, Orderly}
 use Rattle.model.specs.Tables.{sweeps, tables, AllSound}
 use Rattle.model.specs.Lawful.{Lawful, Healthy, Shows}
-use Rattle.model.proofs.Cases.{by-eq, by-same}
+use Rattle.model.proofs.Cases.{by-eq, by-same, clash}
 use Rattle.model.proofs.Slots.{by-put, look-some}
 use Rattle.model.proofs.Pairs.{last-look, lacking-less}
 use Rattle.model.proofs.Finite.{once-append, some-is, insert-mass}
@@ -98,7 +98,7 @@ module _ {K W : Type 0} (M : Store K W) (L : Lawful M) where
 
   frees-dead : (s : Slot K W) (k : K) (v : W) → frees s ≡ true → s ≡ live k v → ⊥
   unfolding frees
-  frees-dead s k v a b = let q : _≡_ {A = Bool} true false = sym a ∙ ap frees b in let z : _≡_ {A = ℕ} 0 1 = cc in omega arith
+  frees-dead s k v a b = let q : _≡_ {A = Bool} true false = sym a ∙ ap frees b in clash cc
 
   -- a value set or a slot taken leaves every live slot its key
   over-live : (m : M .State) → Healthy M L m → (j : ℕ) (a : K) (x y : W) → j < M .size m → M .slots m j ≡ live a y → (i : ℕ) (k : K) (v : W) → M .slots m i ≡ live k v → (u : W) × (M .slots (M .over m j x) i ≡ live k u)
@@ -122,7 +122,7 @@ module _ {K W : Type 0} (M : Store K W) (L : Lawful M) where
             (λ z r.
             let a′ : look (M .keys) (put (M .slots m) j freed) (M .size m) k ≡ some w = rw (wr .slots, wr .size) at q in
             let b′ : look (M .keys) (put (M .slots m) j freed) (M .size m) k ≡ none = removed-look (M .keys) (M .size m) (M .slots m) (h .sound .once) k j v c (ap (M .slots m) (sym z) ∙ p) k ∙ (rw (M .keys .self k)) in
-            let c′ : _≡_ {A = ℕ} 0 1 = cc in absurd (omega arith))
+            clash cc)
             (λ z r. (v, r ∙ p)))),
         wr .size,
       )
@@ -181,8 +181,8 @@ module _ {K W : Type 0} (M : Store K W) (L : Lawful M) where
 
     own-changed : (c : Own K W) → renews M c ≡ false → Changed m (leaves M m c)
     unfolding leaves renews after-or-insert after-insert-entry
-    own-changed makes e = let z : _≡_ {A = ℕ} 0 1 = cc in absurd (omega arith)
-    own-changed clears e = let z : _≡_ {A = ℕ} 0 1 = cc in absurd (omega arith)
+    own-changed makes e = clash cc
+    own-changed clears e = clash cc
     own-changed capacities e = same refl
     own-changed lens e = same refl
     own-changed empties e = same refl
@@ -280,7 +280,7 @@ module _ {K W : Type 0} (M : Store K W) (L : Lawful M) where
   refused-stays : {A : Type 0} (m : M .State) (a : Or A) (n : M .State) → not (refuses (report {K = K} {W = W} (λ u. fine) a)) ≡ false → acted M m a n ≡ m
   unfolding acted report refuses
   refused-stays m (no r) n e = refl
-  refused-stays m (ok u) n e = let z : _≡_ {A = ℕ} 0 1 = cc in absurd (omega arith)
+  refused-stays m (ok u) n e = clash cc
 
   left-stood : (w : World M) → ((y : ℕ) → Healthy M L (w y)) → (x : ℕ) (c : Call K W) → (sweeps M c && not (refuses (answer M w x c))) ≡ false → Stood (w x) (left M w x c)
   unfolding sweeps answer left after-copy after-union after-make

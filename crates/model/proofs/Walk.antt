@@ -9,7 +9,7 @@ use Rattle.model.specs.Slots.{Slot, never, freed, bad, live, Table}
 use Rattle.model.specs.Path.{from}
 use Rattle.model.specs.Calls.{ok}
 use Rattle.model.specs.Walk.{Paced, pair, nothing, done, halts, halted, reachOf, paceTo, pace, step}
-use Rattle.model.proofs.Cases.{by-bool, by-lt, by-eq}
+use Rattle.model.proofs.Cases.{by-bool, by-lt, by-eq, clash}
 use Rattle.model.proofs.Path.{from-low, from-before, from-here}
 use Rattle.model.proofs.Accepted.{need-ok, pass-ok}
 
@@ -42,9 +42,9 @@ module _ {K W : Type 0} (S : ℕ) (t : Table K W) (w : ℕ) where
 
   halted-at : (j : ℕ) (s : Slot K W) (a : Paced K W) → halts s ≡ true → halted w j s ≡ ok a → (k : K) × (v : W) × (s ≡ live k v) × (a ≡ pair k v (suc j) (suc j - w))
   unfolding halts halted
-  halted-at j never a h e = let z : _≡_ {A = ℕ} 0 1 = cc in absurd (omega arith)
-  halted-at j freed a h e = let z : _≡_ {A = ℕ} 0 1 = cc in absurd (omega arith)
-  halted-at j bad a h e = let z : _≡_ {A = ℕ} 0 1 = cc in absurd (omega arith)
+  halted-at j never a h e = clash cc
+  halted-at j freed a h e = clash cc
+  halted-at j bad a h e = clash cc
   halted-at j (live k v) a h e = (k, v, refl, cc)
 
   paced-to : (b : ℕ) (a : Paced K W) → 0 < b → w < S → paceTo t w (reachOf S w b) ≡ ok a → Strode b a

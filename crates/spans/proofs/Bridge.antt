@@ -3,7 +3,6 @@ use Prim.Native.Nat.{ℕ, zero, suc, _+_, _≤_, _<_}
 use mathlib.Core.Bool.{Bool, true, false}
 use mathlib.Core.List.{List}
 use mathlib.Core.Path.{_≡_, refl, sym, _∙_}
-use native.Mathlib.Omega.{arith}
 use borrow.Author.Tests.{eqb-true}
 use lib.Dec.{eqb}
 use lib.ListN.{length}
@@ -11,7 +10,7 @@ use Rattle.model.specs.Slots.{weigh, total}
 use Rattle.model.specs.Store.{path, live-count, used, hurtful}
 use Rattle.model.specs.Calls.{Or, no, ok, need, pass, Seen, found, absent, Spot, occupied, vacant, seenBy, spotBy, get, entry, remove}
 use Rattle.model.specs.Walk.{paceTo}
-use Rattle.model.proofs.Cases.{by-bool}
+use Rattle.model.proofs.Cases.{by-bool, clash}
 use Rattle.digest.specs.Home.{homeOf, keyFits}
 use Rattle.digest.proofs.Bounds.{home-below}
 use Rattle.answers.specs.Refusals.{numberOf}
@@ -54,7 +53,7 @@ lostOf read (located.Refused x) = no (numberOf x)
 pub asked-no : (k : List ℕ) → eqb (askedOf k) 0 ≡ false → askedOf k ≡ 2
 unfolding askedOf
 asked-no k e = by-bool (keyFits (length k))
-    (λ f. let y : _≡_ {A = ℕ} 0 1 = cc (rw f at e) in absurd (omega arith))
+    (λ f. clash (cc (rw f at e)))
     (λ f. rw f)
 
 pub kept-no : (k : List ℕ) → eqb (keptOf k) 0 ≡ false → keptOf k ≡ 2
@@ -131,8 +130,8 @@ module _ {W : Type 0} (C : Column W) (m : Strings C) where
     probing-inside p q = by-bool (fitting (m .spans))
         (λ f. by-bool (eqb (askedOf k) 0)
         (λ a. (path-inside f (rw (f, a) at (sym p ∙ q)), fitting-says (m .spans) f))
-        (λ a. let y : _≡_ {A = ℕ} 0 1 = cc (rw (f, a) at (sym p ∙ q)) in absurd (omega arith)))
-        (λ f. let y : _≡_ {A = ℕ} 0 1 = cc (rw f at (sym p ∙ q)) in absurd (omega arith))
+        (λ a. clash (cc (rw (f, a) at (sym p ∙ q)))))
+        (λ f. clash (cc (rw f at (sym p ∙ q))))
 
     -- the whole calls, where the column is as long as the marks
     module _ (long : C .long (m .words) (length (m .spans .marks)) ≡ true) where

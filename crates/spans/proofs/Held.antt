@@ -8,7 +8,7 @@ use borrow.Author.Tests.{ltb-false, leb-true, leb-false, le-ltb, eq-eqb}
 use lib.Dec.{eqb, ltb, leb}
 use lib.ListN.{length, getD, List·getD-eq-default}
 use Rattle.model.specs.Slots.{never, freed, bad, live, frees, hurts, weigh, total, damaged}
-use Rattle.model.proofs.Cases.{by-bool, by-lt, by-eq}
+use Rattle.model.proofs.Cases.{by-bool, by-lt, by-eq, clash}
 use Rattle.lists.proofs.Parts.{length-part}
 use Rattle.spans.specs.Memory.{Spans, part, endAt, keyAt, spanned, slotsOf, bare, usedOf, beyond, harmful}
 use Rattle.spans.specs.Sound.{liveAt, offsetAt, lengthAt}
@@ -17,10 +17,6 @@ use Rattle.spans.proofs.Tiled.{Counted, counts, idle}
 -- A live slot is one of the slots.
 pub live-below : (marks : List ℕ) (i : ℕ) → getD marks i 0 ≡ 1 → i < length marks
 live-below marks i e = by-lt i (length marks) (λ l x. l) (λ l x. absurd (omega (arith, List·getD-eq-default marks 0 l)))
-
--- the clash of two constructors
-clash : {A : Type 0} → _≡_ {A = ℕ} 0 1 → A
-clash z = absurd (omega arith)
 
 module _ {W : Type 0} where
   spanned-by : {A : Type 0} (b : Bool) (m : ℕ) (k : List ℕ) (v : W) → (m ≡ 0 → spanned b m k v ≡ never → A) → (m ≡ 1 → b ≡ true → spanned b m k v ≡ live k v → A) → (m ≡ 1 → b ≡ false → spanned b m k v ≡ bad → A) → (m ≡ 2 → spanned b m k v ≡ freed → A) → (2 < m → spanned b m k v ≡ bad → A) → A

@@ -11,7 +11,7 @@ use lib.ListN.{length, getD}
 use lib.Seq.{getD-set-other}
 use Rattle.model.specs.Lawful.{Steady}
 use Rattle.model.specs.Places.{Apart}
-use Rattle.model.proofs.Cases.{by-bool}
+use Rattle.model.proofs.Cases.{by-bool, neither}
 use Rattle.kinds.specs.Columns.{Column}
 use Rattle.kinds.proofs.Columns.{Orderly}
 use Rattle.spans.specs.Memory.{Spans, endAt, usedOf, harmful, fall, fallen, filled, emptied, Strings, strings}
@@ -25,11 +25,6 @@ use Rattle.spans.proofs.Lawful.{sizes-say, used-is, over-wrote, fill-wr
 -- A number that is not from a on below b is below a, or from b on.
 outside : {A : Type 0} (a b n : ℕ) → (leb a n && ltb n b) ≡ false → (n < a → A) → (b ≤ n → A) → A
 outside a b n e low high = by-bool (leb a n) (λ t. high (ltb-false n b (rw t at e))) (λ t. low (leb-false a n t))
-
--- Neither of two tests holds.
-neither : (a b : Bool) → cond a true b ≡ false → (a ≡ false) × (b ≡ false)
-neither true b e = let z : _≡_ {A = ℕ} 0 1 = cc in absurd (omega arith)
-neither false b e = (refl, e)
 
 -- An offset that is not to fall stays.
 fall-not : (e l mark offset : ℕ) → (eqb mark 1 && leb e offset) ≡ false → fall e l mark offset ≡ offset

@@ -8,7 +8,7 @@ use borrow.Author.Tests.{ltb-false}
 use lib.Dec.{ltb, leb, eqb}
 use lib.ListN.{length}
 use Rattle.model.specs.Slots.{damaged}
-use Rattle.model.proofs.Cases.{by-bool}
+use Rattle.model.proofs.Cases.{by-bool, clash}
 use Rattle.answers.specs.declared.Refusal.the-variants as refusal
 use Rattle.digest.specs.Home.{homeOf}
 use Rattle.kinds.specs.declared.Probed.{Probed}
@@ -27,21 +27,21 @@ use Rattle.spans.specs.Surveying.{surveying}
 pub used-within : (s : Spans) → harmful s ≡ false → usedOf s ≤ length (s .arena)
 unfolding harmful
 used-within s h = by-bool (damaged (bare s) (length (s .marks)))
-    (λ e. let z : true ≡ false = rw e at h in let y : _≡_ {A = ℕ} 0 1 = cc in absurd (omega arith))
+    (λ e. let z : true ≡ false = rw e at h in clash cc)
     (λ e. by-bool (ltb (length (s .arena)) (usedOf s))
-    (λ f. let z : true ≡ false = rw (e, f) at h in let y : _≡_ {A = ℕ} 0 1 = cc in absurd (omega arith))
+    (λ f. let z : true ≡ false = rw (e, f) at h in clash cc)
     (λ f. ltb-false (length (s .arena)) (usedOf s) f))
 
 -- what a survey says
 module _ (s : Spans) {r : Surveyed} (p : r ≡ surveying s) where
   pub surveyed-bad : r ≡ surveyed.Bad → harmful s ≡ true
   unfolding surveying
-  surveyed-bad q = by-bool (harmful s) (λ h. h) (λ h. let y : _≡_ {A = ℕ} 0 1 = cc (rw h at (sym q ∙ p)) in absurd (omega arith))
+  surveyed-bad q = by-bool (harmful s) (λ h. h) (λ h. clash (cc (rw h at (sym q ∙ p))))
 
   pub surveyed-used : {u : ℕ} → r ≡ surveyed.Used u → (harmful s ≡ false) × (u ≡ usedOf s)
   unfolding surveying
   surveyed-used {u} q = by-bool (harmful s)
-      (λ h. let y : _≡_ {A = ℕ} 0 1 = cc (rw h at (sym q ∙ p)) in absurd (omega arith))
+      (λ h. clash (cc (rw h at (sym q ∙ p))))
       (λ h. let z : surveyed.Used u ≡ surveyed.Used (usedOf s) = rw h at (sym q ∙ p) in (h, cc))
 
   pub surveyed-within : {u : ℕ} → r ≡ surveyed.Used u → u ≤ length (s .arena)

@@ -9,7 +9,7 @@ use borrow.Author.Tests.{lt-ltb, le-ltb, ltb-true, eqb-true, ne-eqb}
 use lib.Dec.{ltb, eqb}
 use lib.ListN.{length, getD}
 use Rattle.model.specs.Slots.{hurts, weigh, total, damaged}
-use Rattle.model.proofs.Cases.{both, by-bool, by-lt}
+use Rattle.model.proofs.Cases.{both, by-bool, by-lt, clash}
 use Rattle.model.proofs.Slots.{damaged-bad}
 use Rattle.kinds.specs.Marks.{cell}
 use Rattle.kinds.proofs.Scanning.{cell-bad, cell-sound}
@@ -49,7 +49,7 @@ end-is s i = refl
 -- a live span past the arena is a damaged slot
 past-damaged : (s : Spans) (n : ℕ) → beyond s (length (s .arena)) n ≡ true → damaged (bare s) n ≡ true
 unfolding beyond damaged hurts
-past-damaged s zero h = absurd (let z : _≡_ {A = ℕ} 0 1 = cc in omega arith)
+past-damaged s zero h = clash cc
 past-damaged s (suc n) h = by-bool (eqb (getD (s .marks) n 0) 1 && ltb (length (s .arena)) (endAt s n))
     (λ e. let (a, b) = both (eqb (getD (s .marks) n 0) 1) (ltb (length (s .arena)) (endAt s n)) e in
     let m : 3 ≡ markAt s n = mark-past s n refl (eqb-true (getD (s .marks) n 0) 1 a) refl (omega (arith, end-is s n, ltb-true (length (s .arena)) (endAt s n) b)) in

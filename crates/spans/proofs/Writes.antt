@@ -9,7 +9,7 @@ use lib.Dec.{eqb, leb}
 use lib.ListN.{length, getD, length-set, length-replicate}
 use lib.Seq.{getD-set-same, getD-set-other}
 use Rattle.model.specs.Slots.{Slot, freed, live, Table, put, made, weigh, damaged}
-use Rattle.model.proofs.Cases.{by-bool, by-eq}
+use Rattle.model.proofs.Cases.{by-bool, by-eq, clash}
 use Rattle.model.proofs.Slots.{by-put, total-put, damaged-not, damaged-bad}
 use Rattle.model.proofs.Finite.{total-dead}
 use Rattle.lists.proofs.Parts.{getD-zeros}
@@ -46,8 +46,8 @@ used-changed s t i c e n l = rw (e, n) (total-put length (bare s) i c (length (s
 -- A live slot does no damage.
 damaged-put : {K W : Type 0} (t : Table K W) (n i : ℕ) (k : K) (v : W) → damaged t n ≡ false → damaged (put t i (live k v)) n ≡ false
 damaged-put t n i k v e = damaged-not (put t i (live k v)) n (λ j l q. by-put t i (live k v) j
-    (λ p r. let z : _≡_ {A = ℕ} 0 1 = cc in omega arith)
-    (λ p r. let y : true ≡ false = sym (damaged-bad t n j l (sym r ∙ q)) ∙ e in let z : _≡_ {A = ℕ} 0 1 = cc in omega arith))
+    (λ p r. clash cc)
+    (λ p r. let y : true ≡ false = sym (damaged-bad t n j l (sym r ∙ q)) ∙ e in clash cc))
 
 module _ (s : Spans) (i : ℕ) (k : List ℕ) (room : usedOf s + length k ≤ length (s .arena)) where
   -- A key put into a slot keeps the sizes.
@@ -227,7 +227,7 @@ module _ (s : Spans) where
 
   pub wipe-used : usedOf (wiped s) ≡ 0
   unfolding usedOf made
-  wipe-used = rw (wipe-slots (λ j. tt {0})) (total-dead {W = Unit {0}} length made (length (wiped s .marks)) (λ j l k v e. let z : _≡_ {A = ℕ} 0 1 = cc in omega arith))
+  wipe-used = rw (wipe-slots (λ j. tt {0})) (total-dead {W = Unit {0}} length made (length (wiped s .marks)) (λ j l k v e. clash cc))
 
   pub wipe-laid : Laid (wiped s)
   unfolding wiped

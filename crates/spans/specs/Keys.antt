@@ -7,7 +7,7 @@ use native.Mathlib.Omega.{arith}
 use borrow.Author.Tests.{eqb-true, eq-eqb}
 use lib.Dec.{eqb}
 use Rattle.model.specs.Slots.{Keys}
-use Rattle.model.proofs.Cases.{both}
+use Rattle.model.proofs.Cases.{both, clash}
 
 -- Whether two byte strings are equal, byte by byte.
 unfoldable pub sameBytes : List ℕ → List ℕ → Bool
@@ -20,8 +20,8 @@ sameBytes (x ∷ xs) (y ∷ ys) = eqb x y && sameBytes xs ys
 pub same-right : (xs ys : List ℕ) → sameBytes ys xs ≡ true → xs ≡ ys
 unfolding sameBytes
 same-right [] [] e = refl
-same-right [] (y ∷ ys) e = let z : _≡_ {A = ℕ} 0 1 = cc in absurd (omega arith)
-same-right (x ∷ xs) [] e = let z : _≡_ {A = ℕ} 0 1 = cc in absurd (omega arith)
+same-right [] (y ∷ ys) e = clash cc
+same-right (x ∷ xs) [] e = clash cc
 same-right (x ∷ xs) (y ∷ ys) e =
     let (p, q) = both (eqb y x) (sameBytes ys xs) e in
     let z : x ≡ y = omega (arith, eqb-true y x p) in
