@@ -1,8 +1,8 @@
--- `int_map::len` meets its contract: refusal 1 or 5, or the number of live marks.
+-- `int_reads::len` meets its contract: refusal 1 or 5, or the number of live marks.
 use borrow.Author.Needs.{needs}
-use Rattle.int_map.proofs.Laws.{len-live, len-bad, len-not}
-use Rattle.int_map.proofs.len.Statement.{statement}
-use Rattle.int_map.proofs.len.Tie as tie
+use Rattle.int_reads.proofs.Laws.{len-live, len-bad, len-not}
+use Rattle.int_reads.proofs.len.Statement.{statement}
+use Rattle.int_reads.proofs.len.Tie as tie
 
 map-fits-requires : tie.Need-map-fits-requires
 map-fits-requires c κs = search needs

@@ -1,8 +1,8 @@
--- `int_map::capacity` meets its contract: refusal 1, or the number of slots.
+-- `int_reads::capacity` meets its contract: refusal 1, or the number of slots.
 use borrow.Author.Needs.{needs}
-use Rattle.int_map.proofs.Laws.{capacity-done, capacity-not}
-use Rattle.int_map.proofs.capacity.Statement.{statement}
-use Rattle.int_map.proofs.capacity.Tie as tie
+use Rattle.int_reads.proofs.Laws.{capacity-done, capacity-not}
+use Rattle.int_reads.proofs.capacity.Statement.{statement}
+use Rattle.int_reads.proofs.capacity.Tie as tie
 
 map-fits-requires : tie.Need-map-fits-requires
 map-fits-requires c κs = search needs

@@ -1,8 +1,8 @@
--- `int_map::copy` meets its contract: refusal 1, or every slot is the other table's.
+-- `int_copy::copy` meets its contract: refusal 1, or every slot is the other table's.
 use borrow.Author.Needs.{needs}
-use Rattle.int_map.proofs.Laws.{copy-done, copy-unequal, copy-from-unfit, copy-unfit}
-use Rattle.int_map.proofs.copy.Statement.{statement}
-use Rattle.int_map.proofs.copy.Tie as tie
+use Rattle.int_copy.proofs.Laws.{copy-done, copy-unequal, copy-from-unfit, copy-unfit}
+use Rattle.int_copy.proofs.copy.Statement.{statement}
+use Rattle.int_copy.proofs.copy.Tie as tie
 
 map-fits-requires : tie.Need-map-fits-requires
 map-fits-requires c κs = search needs

@@ -1,10 +1,10 @@
--- `int_map::get` meets its contract: what the probing found, with the value in its slot.
+-- `int_reads::get` meets its contract: what the probing found, with the value in its slot.
 use borrow.Author.Needs.{needs}
 use native.Mathlib.Omega.{arith}
 use Rattle.ints.proofs.Seeking.{hit-inside}
-use Rattle.int_map.proofs.Laws.{get-hit, get-free, get-full, get-refused}
-use Rattle.int_map.proofs.get.Statement.{statement}
-use Rattle.int_map.proofs.get.Tie as tie
+use Rattle.int_reads.proofs.Laws.{get-hit, get-free, get-full, get-refused}
+use Rattle.int_reads.proofs.get.Statement.{statement}
+use Rattle.int_reads.proofs.get.Tie as tie
 
 seek-requires : tie.Need-seek-requires
 seek-requires c κs = search needs

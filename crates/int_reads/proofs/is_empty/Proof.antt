@@ -1,11 +1,11 @@
--- `int_map::is_empty` meets its contract: as the length, told as whether it is 0.
+-- `int_reads::is_empty` meets its contract: as the length, told as whether it is 0.
 use borrow.Author.Needs.{needs}
 use Rattle.kinds.specs.Calls as kinds
 use Rattle.kinds.proofs.Counts.{empty-none, empty-some, empty-not}
 use Rattle.ints.specs.Maps.{maps}
-use Rattle.int_map.specs.Calls.{lenOf, isEmptyOf}
-use Rattle.int_map.proofs.is_empty.Statement.{statement}
-use Rattle.int_map.proofs.is_empty.Tie as tie
+use Rattle.int_reads.specs.Calls.{lenOf, isEmptyOf}
+use Rattle.int_reads.proofs.is_empty.Statement.{statement}
+use Rattle.int_reads.proofs.is_empty.Tie as tie
 
 len-requires : tie.Need-len-requires
 len-requires c κs = search needs

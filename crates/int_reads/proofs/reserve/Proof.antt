@@ -1,12 +1,12 @@
--- `int_map::reserve` meets its contract: refusals 1, 5 and 7, or room.
+-- `int_reads::reserve` meets its contract: refusals 1, 5 and 7, or room.
 use borrow.Author.Needs.{needs}
 use native.Mathlib.Omega.{arith}
 use Rattle.kinds.specs.Calls as kinds
 use Rattle.kinds.proofs.Counts.{count-within, reserve-room, reserve-none, reserve-not}
 use Rattle.ints.specs.Maps.{maps}
-use Rattle.int_map.specs.Calls.{lenOf, reserveOf}
-use Rattle.int_map.proofs.reserve.Statement.{statement}
-use Rattle.int_map.proofs.reserve.Tie as tie
+use Rattle.int_reads.specs.Calls.{lenOf, reserveOf}
+use Rattle.int_reads.proofs.reserve.Statement.{statement}
+use Rattle.int_reads.proofs.reserve.Tie as tie
 
 len-requires : tie.Need-len-requires
 len-requires c κs = search needs

@@ -1,8 +1,8 @@
--- `int_map::contains_key` meets its contract: what the probing found.
+-- `int_reads::contains_key` meets its contract: what the probing found.
 use borrow.Author.Needs.{needs}
-use Rattle.int_map.proofs.Laws.{contains-hit, contains-free, contains-full, contains-refused}
-use Rattle.int_map.proofs.contains_key.Statement.{statement}
-use Rattle.int_map.proofs.contains_key.Tie as tie
+use Rattle.int_reads.proofs.Laws.{contains-hit, contains-free, contains-full, contains-refused}
+use Rattle.int_reads.proofs.contains_key.Statement.{statement}
+use Rattle.int_reads.proofs.contains_key.Tie as tie
 
 seek-requires : tie.Need-seek-requires
 seek-requires c κs = search needs
