@@ -1,4 +1,3 @@
 -- The definitions of integer sets.
 pub mod Memory
-pub mod Numbers
 pub mod Calls

@@ -1,9 +1,11 @@
-// The integer map for C: each call as int_map, int_union and int_walk have it, its answer as numbers.
+// The integer map for C: each call as int_map, int_reads, int_copy, int_union and int_walk have it, its answer as numbers.
 ghost use mathlib.Core.Path.{_≡_};
 ghost use Rattle.kinds.specs.Told.{told};
 ghost use Rattle.lent.specs.Moved.{movedOn};
 ghost use Rattle.ints.specs.Memory.{memory};
-ghost use Rattle.int_map.specs.Calls.{makeOf, capacityOf, lenOf, isEmptyOf, reserveOf, getOf, containsKeyOf, insertOf, removeOf, copyOf};
+ghost use Rattle.int_map.specs.Calls.{makeOf, insertOf, removeOf};
+ghost use Rattle.int_reads.specs.Calls.{capacityOf, lenOf, isEmptyOf, reserveOf, getOf, containsKeyOf};
+ghost use Rattle.int_copy.specs.Calls.{copyOf};
 ghost use Rattle.int_union.specs.Calls.{unionOf};
 ghost use Rattle.int_walk.specs.Calls.{stepOf};
 use answers::Numbers;
@@ -47,7 +49,7 @@ pub extern "C" fn moss_int_map_clear(
 pub extern "C" fn moss_int_map_capacity(marks: &[u8], keys: &[u64], values: &[u64]) -> Numbers
     ensures { λ r. ⌜ r ≡ capacityOf (memory (now (marks .entry)) (now (keys .entry)) (now (values .entry))) ⌝ }
 {
-    counted_numbers(int_map::capacity(marks, keys, values))
+    counted_numbers(int_reads::capacity(marks, keys, values))
 }
 
 // The number of keys.
@@ -55,7 +57,7 @@ pub extern "C" fn moss_int_map_capacity(marks: &[u8], keys: &[u64], values: &[u6
 pub extern "C" fn moss_int_map_len(marks: &[u8], keys: &[u64], values: &[u64]) -> Numbers
     ensures { λ r. ⌜ r ≡ lenOf (memory (now (marks .entry)) (now (keys .entry)) (now (values .entry))) ⌝ }
 {
-    counted_numbers(int_map::len(marks, keys, values))
+    counted_numbers(int_reads::len(marks, keys, values))
 }
 
 // Whether there is no key.
@@ -63,7 +65,7 @@ pub extern "C" fn moss_int_map_len(marks: &[u8], keys: &[u64], values: &[u64]) -
 pub extern "C" fn moss_int_map_is_empty(marks: &[u8], keys: &[u64], values: &[u64]) -> Numbers
     ensures { λ r. ⌜ r ≡ isEmptyOf (memory (now (marks .entry)) (now (keys .entry)) (now (values .entry))) ⌝ }
 {
-    emptiness_numbers(int_map::is_empty(marks, keys, values))
+    emptiness_numbers(int_reads::is_empty(marks, keys, values))
 }
 
 // Whether so many slots are not live.
@@ -76,7 +78,7 @@ pub extern "C" fn moss_int_map_reserve(
 ) -> Numbers
     ensures { λ r. ⌜ r ≡ reserveOf (memory (now (marks .entry)) (now (keys .entry)) (now (values .entry))) asked ⌝ }
 {
-    reserved_numbers(int_map::reserve(marks, keys, values, asked))
+    reserved_numbers(int_reads::reserve(marks, keys, values, asked))
 }
 
 // The value of a key.
@@ -84,7 +86,7 @@ pub extern "C" fn moss_int_map_reserve(
 pub extern "C" fn moss_int_map_get(marks: &[u8], keys: &[u64], values: &[u64], key: u64) -> Numbers
     ensures { λ r. ⌜ r ≡ getOf (memory (now (marks .entry)) (now (keys .entry)) (now (values .entry))) key ⌝ }
 {
-    got_numbers(int_map::get(marks, keys, values, key))
+    got_numbers(int_reads::get(marks, keys, values, key))
 }
 
 // Whether a key is there.
@@ -97,7 +99,7 @@ pub extern "C" fn moss_int_map_contains_key(
 ) -> Numbers
     ensures { λ r. ⌜ r ≡ containsKeyOf (memory (now (marks .entry)) (now (keys .entry)) (now (values .entry))) key ⌝ }
 {
-    contained_numbers(int_map::contains_key(marks, keys, values, key))
+    contained_numbers(int_reads::contains_key(marks, keys, values, key))
 }
 
 // Gives a key its value.
@@ -139,7 +141,7 @@ pub extern "C" fn moss_int_map_copy(
 ) -> Numbers
     ensures { λ r. ⌜ told r (memory (now («to_marks» .exit)) (now («to_keys» .exit)) (now («to_values» .exit))) ≡ copyOf (memory (now («to_marks» .entry)) (now («to_keys» .entry)) (now («to_values» .entry))) (memory (now (marks .entry)) (now (keys .entry)) (now (values .entry))) ⌝ }
 {
-    outcome_numbers(int_map::copy(to_marks, to_keys, to_values, marks, keys, values))
+    outcome_numbers(int_copy::copy(to_marks, to_keys, to_values, marks, keys, values))
 }
 
 // Puts the right's pairs into the left, all or none.

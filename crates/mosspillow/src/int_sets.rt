@@ -1,9 +1,12 @@
-// The integer set for C: each call as int_set has it, its answer as numbers.
+// The integer set for C: each call as int_set, int_set_reads, int_set_copy and int_set_walk have it, its answer as numbers.
 ghost use mathlib.Core.Path.{_≡_};
 ghost use Rattle.kinds.specs.Told.{told};
 ghost use Rattle.lent.specs.Moved.{movedOn};
 ghost use Rattle.int_set.specs.Memory.{memory};
-ghost use Rattle.int_set.specs.Calls.{makeOf, capacityOf, lenOf, isEmptyOf, reserveOf, getOf, containsOf, insertOf, removeOf, copyOf, stepOf};
+ghost use Rattle.int_set.specs.Calls.{makeOf, insertOf, removeOf};
+ghost use Rattle.int_set_reads.specs.Calls.{capacityOf, lenOf, isEmptyOf, reserveOf, getOf, containsOf};
+ghost use Rattle.int_set_copy.specs.Calls.{copyOf};
+ghost use Rattle.int_set_walk.specs.Calls.{stepOf};
 use answers::Numbers;
 use answers::added_numbers;
 use answers::contained_numbers;
@@ -13,7 +16,7 @@ use answers::emptiness_numbers;
 use answers::member_numbers;
 use answers::outcome_numbers;
 use answers::reserved_numbers;
-use int_set::Walk;
+use int_set_walk::Walk;
 use numbers::int_sets::step_numbers;
 
 // Makes an empty set of the lent arrays.
@@ -37,7 +40,7 @@ pub extern "C" fn moss_int_set_clear(marks: &mut [u8], keys: &mut [u64]) -> Numb
 pub extern "C" fn moss_int_set_capacity(marks: &[u8], keys: &[u64]) -> Numbers
     ensures { λ r. ⌜ r ≡ capacityOf (memory (now (marks .entry)) (now (keys .entry))) ⌝ }
 {
-    counted_numbers(int_set::capacity(marks, keys))
+    counted_numbers(int_set_reads::capacity(marks, keys))
 }
 
 // The number of keys.
@@ -45,7 +48,7 @@ pub extern "C" fn moss_int_set_capacity(marks: &[u8], keys: &[u64]) -> Numbers
 pub extern "C" fn moss_int_set_len(marks: &[u8], keys: &[u64]) -> Numbers
     ensures { λ r. ⌜ r ≡ lenOf (memory (now (marks .entry)) (now (keys .entry))) ⌝ }
 {
-    counted_numbers(int_set::len(marks, keys))
+    counted_numbers(int_set_reads::len(marks, keys))
 }
 
 // Whether there is no key.
@@ -53,7 +56,7 @@ pub extern "C" fn moss_int_set_len(marks: &[u8], keys: &[u64]) -> Numbers
 pub extern "C" fn moss_int_set_is_empty(marks: &[u8], keys: &[u64]) -> Numbers
     ensures { λ r. ⌜ r ≡ isEmptyOf (memory (now (marks .entry)) (now (keys .entry))) ⌝ }
 {
-    emptiness_numbers(int_set::is_empty(marks, keys))
+    emptiness_numbers(int_set_reads::is_empty(marks, keys))
 }
 
 // Whether so many slots are not live.
@@ -61,7 +64,7 @@ pub extern "C" fn moss_int_set_is_empty(marks: &[u8], keys: &[u64]) -> Numbers
 pub extern "C" fn moss_int_set_reserve(marks: &[u8], keys: &[u64], asked: u64) -> Numbers
     ensures { λ r. ⌜ r ≡ reserveOf (memory (now (marks .entry)) (now (keys .entry))) asked ⌝ }
 {
-    reserved_numbers(int_set::reserve(marks, keys, asked))
+    reserved_numbers(int_set_reads::reserve(marks, keys, asked))
 }
 
 // The key, where it is there.
@@ -69,7 +72,7 @@ pub extern "C" fn moss_int_set_reserve(marks: &[u8], keys: &[u64], asked: u64) -
 pub extern "C" fn moss_int_set_get(marks: &[u8], keys: &[u64], key: u64) -> Numbers
     ensures { λ r. ⌜ r ≡ getOf (memory (now (marks .entry)) (now (keys .entry))) key ⌝ }
 {
-    member_numbers(int_set::get(marks, keys, key))
+    member_numbers(int_set_reads::get(marks, keys, key))
 }
 
 // Whether a key is there.
@@ -77,7 +80,7 @@ pub extern "C" fn moss_int_set_get(marks: &[u8], keys: &[u64], key: u64) -> Numb
 pub extern "C" fn moss_int_set_contains(marks: &[u8], keys: &[u64], key: u64) -> Numbers
     ensures { λ r. ⌜ r ≡ containsOf (memory (now (marks .entry)) (now (keys .entry))) key ⌝ }
 {
-    contained_numbers(int_set::contains(marks, keys, key))
+    contained_numbers(int_set_reads::contains(marks, keys, key))
 }
 
 // Puts a key in.
@@ -106,7 +109,7 @@ pub extern "C" fn moss_int_set_copy(
 ) -> Numbers
     ensures { λ r. ⌜ told r (memory (now («to_marks» .exit)) (now («to_keys» .exit))) ≡ copyOf (memory (now («to_marks» .entry)) (now («to_keys» .entry))) (memory (now (marks .entry)) (now (keys .entry))) ⌝ }
 {
-    outcome_numbers(int_set::copy(to_marks, to_keys, marks, keys))
+    outcome_numbers(int_set_copy::copy(to_marks, to_keys, marks, keys))
 }
 
 // Where a walk starts.

@@ -1,11 +1,11 @@
 // The integer set's walk: the numbers of a step.
 ghost use mathlib.Core.Path.{_≡_};
-ghost use Rattle.int_set.specs.Numbers.{stepNumbers};
+ghost use Rattle.int_set_walk.specs.Numbers.{stepNumbers};
 use crate::walk_numbers;
 use answers::Numbers;
 use answers::number;
-use int_set::Paced;
-use int_set::Stride;
+use int_set_walk::Paced;
+use int_set_walk::Stride;
 
 // The numbers of a step of a walk.
 pub fn step_numbers(s: Stride) -> Numbers

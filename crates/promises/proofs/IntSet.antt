@@ -28,7 +28,10 @@ use Rattle.ints.proofs.Lawful.{cells-lawful}
 use Rattle.ints.proofs.Places.{cells-steady, cells-apart}
 use Rattle.int_set.specs.Memory.{sets}
 use Rattle.answers.specs.Said.{keyHanded}
-use Rattle.int_set.specs.Calls.{makeOf, capacityOf, lenOf, isEmptyOf, reserveOf, getOf, containsOf, insertOf, removeOf, copyOf, stepOf}
+use Rattle.int_set.specs.Calls.{makeOf, insertOf, removeOf}
+use Rattle.int_set_reads.specs.Calls.{capacityOf, lenOf, isEmptyOf, reserveOf, getOf, containsOf}
+use Rattle.int_set_copy.specs.Calls.{copyOf}
+use Rattle.int_set_walk.specs.Calls.{stepOf}
 use Rattle.lent.specs.Moved.{movedOn}
 use Rattle.lent.proofs.Moved.{moved-said}
 use Rattle.promises.specs.IntSet.{Call, make, clear, capacity, len, is-empty, reserve, get, contains, insert, remove, copy, step, told-by, meant, published}

@@ -8,7 +8,9 @@ use Rattle.kinds.specs.Told.{Told, told}
 use Rattle.kinds.specs.Published.{Published}
 use Rattle.ints.specs.Memory.{Cells}
 use Rattle.ints.specs.Maps.{maps}
-use Rattle.int_map.specs.Calls.{makeOf, capacityOf, lenOf, isEmptyOf, reserveOf, getOf, containsKeyOf, insertOf, removeOf, copyOf}
+use Rattle.int_map.specs.Calls.{makeOf, insertOf, removeOf}
+use Rattle.int_reads.specs.Calls.{capacityOf, lenOf, isEmptyOf, reserveOf, getOf, containsKeyOf}
+use Rattle.int_copy.specs.Calls.{copyOf}
 use Rattle.int_union.specs.Calls.{unionOf}
 use Rattle.int_walk.specs.Calls.{stepOf}
 use Rattle.int_handles.specs.Calls.{setOf, removeEntryOf}

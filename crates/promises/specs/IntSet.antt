@@ -7,7 +7,10 @@ use Rattle.kinds.specs.Told.{Told, told}
 use Rattle.kinds.specs.Published.{Published}
 use Rattle.ints.specs.Memory.{Cells}
 use Rattle.int_set.specs.Memory.{sets}
-use Rattle.int_set.specs.Calls.{makeOf, capacityOf, lenOf, isEmptyOf, reserveOf, getOf, containsOf, insertOf, removeOf, copyOf, stepOf}
+use Rattle.int_set.specs.Calls.{makeOf, insertOf, removeOf}
+use Rattle.int_set_reads.specs.Calls.{capacityOf, lenOf, isEmptyOf, reserveOf, getOf, containsOf}
+use Rattle.int_set_copy.specs.Calls.{copyOf}
+use Rattle.int_set_walk.specs.Calls.{stepOf}
 
 -- One constructor for each published call: keys and budgets are numbers, another table is its number.
 pub data Call : Type 0 where

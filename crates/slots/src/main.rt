@@ -71,7 +71,7 @@ fn remove(marks: &mut [u8], keys: &mut [u64], values: &mut [u64], key: u64) {
 
 // `g K`: found with value and examined number, or absent with examined number.
 fn get(marks: &[u8], keys: &[u64], values: &[u64], key: u64) {
-    let said = int_map::get(marks, keys, values, key);
+    let said = int_reads::get(marks, keys, values, key);
     match said {
         Got::Found(value, _, examined) => {
             say(b"found ");

@@ -10,7 +10,8 @@ use Rattle.model.specs.Machine.{stepping}
 use Rattle.answers.specs.Said.{roomSaid, gotSaid, insertedSaid, removedSaid, storedSaid, stepSaid}
 use Rattle.digest.specs.Digest.{mixOf, moreOf}
 use Rattle.kinds.specs.Marks.{cell}
-use Rattle.int_map.specs.Calls.{getOf, reserveOf, insertOf, removeOf}
+use Rattle.int_map.specs.Calls.{insertOf, removeOf}
+use Rattle.int_reads.specs.Calls.{getOf, reserveOf}
 use Rattle.int_walk.specs.Calls.{stepOf}
 use Rattle.kinds.specs.Calls as kinds
 use Rattle.spans.specs.Keys.{sameBytes}

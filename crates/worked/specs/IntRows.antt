@@ -5,7 +5,8 @@ use Rattle.answers.specs.declared.Numbers.{Numbers}
 use Rattle.kinds.specs.Columns.{values}
 use Rattle.ints.specs.Memory.{Cells, memory}
 use Rattle.kinds.specs.Told.{Told, told}
-use Rattle.int_map.specs.Calls.{getOf, reserveOf, insertOf, removeOf}
+use Rattle.int_map.specs.Calls.{insertOf, removeOf}
+use Rattle.int_reads.specs.Calls.{getOf, reserveOf}
 use Rattle.int_walk.specs.Calls.{stepOf}
 use Rattle.worked.specs.Rows.{Row}
 

@@ -1,0 +1,3 @@
+-- The laws of copies of integer maps.
+pub mod Laws
+pub mod Settled

@@ -1,0 +1,3 @@
+-- The laws of the reading calls of integer maps.
+pub mod Laws
+pub mod Settled

@@ -1,0 +1,3 @@
+-- The laws of the reading calls of integer sets.
+pub mod Laws
+pub mod Settled

@@ -1,0 +1,34 @@
+-- Each contract settles its answer: two results that it allows are equal.
+use Prim.Native.Nat.{ℕ}
+use Rattle.answers.specs.Numbers.{countedNumbers, emptinessNumbers, reservedNumbers, memberNumbers, containedNumbers}
+use Rattle.answers.proofs.Equal.{countedNumbers-injective, emptinessNumbers-injective, reservedNumbers-injective, memberNumbers-injective, containedNumbers-injective}
+use Rattle.kinds.specs.Columns.{nothing}
+use Rattle.kinds.specs.Told.{Settled}
+use Rattle.kinds.proofs.Settled.{settled}
+use Rattle.ints.specs.Memory.{Cells}
+use Rattle.int_set_reads.specs.Calls.{capacityOf, lenOf, isEmptyOf, reserveOf, getOf, containsOf}
+
+module _ (m : Cells nothing) where
+  -- `capacity`.
+  pub capacity-settled : Settled countedNumbers (capacityOf m)
+  capacity-settled = settled countedNumbers-injective
+
+  -- `len`.
+  pub len-settled : Settled countedNumbers (lenOf m)
+  len-settled = settled countedNumbers-injective
+
+  -- `is_empty`.
+  pub is-empty-settled : Settled emptinessNumbers (isEmptyOf m)
+  is-empty-settled = settled emptinessNumbers-injective
+
+  -- `reserve`.
+  pub reserve-settled : (asked : ℕ) → Settled reservedNumbers (reserveOf m asked)
+  reserve-settled asked = settled reservedNumbers-injective
+
+  -- `get`.
+  pub get-settled : (k : ℕ) → Settled memberNumbers (getOf m k)
+  get-settled k = settled memberNumbers-injective
+
+  -- `contains`.
+  pub contains-settled : (k : ℕ) → Settled containedNumbers (containsOf m k)
+  contains-settled k = settled containedNumbers-injective

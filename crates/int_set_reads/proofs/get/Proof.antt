@@ -1,0 +1,52 @@
+-- `int_set_reads::get` meets its contract: what the probing found, with the key.
+use borrow.Author.Needs.{needs}
+use Rattle.answers.specs.Numbers.{memberNumbers}
+use Rattle.answers.specs.Said.{memberSaid}
+use Rattle.int_set_reads.proofs.Laws.{get-says}
+use Rattle.int_set_reads.proofs.get.Statement.{statement}
+use Rattle.int_set_reads.proofs.get.Tie as tie
+
+probe-requires : tie.Need-probe-requires
+probe-requires c κs = search needs
+
+enum-known-seen : tie.Need-enum-known-seen
+enum-known-seen c = search needs
+
+enum-known-seen-2 : tie.Need-enum-known-seen-2
+enum-known-seen-2 c = search needs
+
+enum-known-seen-3 : tie.Need-enum-known-seen-3
+enum-known-seen-3 c = search needs
+
+enum-known-seen-4 : tie.Need-enum-known-seen-4
+enum-known-seen-4 c = search needs
+
+returns : tie.Need-returns
+unfolding memberNumbers memberSaid
+returns c = get-says _ _ _ (c .before .before .before .probe .ensures) (c .before .seen .given .1)
+
+returns-2 : tie.Need-returns-2
+unfolding memberNumbers memberSaid
+returns-2 c = get-says _ _ _ (c .before .before .before .probe .ensures) (c .before .seen2 .given .1)
+
+returns-3 : tie.Need-returns-3
+unfolding memberNumbers memberSaid
+returns-3 c = get-says _ _ _ (c .before .before .before .probe .ensures) (c .before .seen3 .given .1)
+
+returns-4 : tie.Need-returns-4
+unfolding memberNumbers memberSaid
+returns-4 c = get-says _ _ _ (c .before .before .before .probe .ensures) (c .before .seen4 .given .1)
+
+pub get-spec : {M : Type 1} → statement M
+get-spec =
+    tie.close
+    (tie.spec
+    probe-requires
+    enum-known-seen
+    enum-known-seen-2
+    enum-known-seen-3
+    enum-known-seen-4
+    returns
+    returns-2
+    returns-3
+    returns-4)

@@ -1,0 +1,69 @@
+-- What the tests and callees of a walk's step say of its definition: one law for each return of the code.
+use Prim.Native.Nat.{ℕ, _+_, _-_, _≤_, _<_}
+use mathlib.Core.Bool.{Bool, true, false}
+use mathlib.Core.List.{List}
+use mathlib.Core.Path.{_≡_, _∙_}
+use native.Mathlib.Numerals.{add-one}
+use native.Mathlib.Omega.{arith}
+use borrow.Author.Tests.{eq-eqb, ne-eqb, le-leb, lt-leb}
+use lib.ListN.{length, getD}
+use Rattle.model.specs.Machine.{stepping}
+use Rattle.model.specs.Calls.{no, need, pass}
+use Rattle.model.specs.Walk.{reachOf, pace, step}
+use Rattle.model.proofs.Walk.{reach-high}
+use Rattle.kinds.specs.declared.Next.{Next}
+use Rattle.kinds.specs.declared.Next.the-variants as next
+use Rattle.kinds.specs.Columns.{nothing}
+use Rattle.ints.specs.Memory.{fitting}
+use Rattle.ints.specs.Scanning.{nexting}
+use Rattle.ints.proofs.Bridge.{paced-by}
+use Rattle.int_set_walk.specs.declared.Paced.the-variants.{Member, Nothing, Done}
+use Rattle.int_set_walk.specs.declared.Stride.{Stride}
+use Rattle.int_set.specs.Memory.{memory}
+use Rattle.answers.specs.Said.{keyHanded, stepSaid}
+use Rattle.int_set_walk.specs.Numbers.{pacedNumbers, stepNumbers}
+use Rattle.int_set_walk.specs.Calls.{paceOf, stepOf}
+use Rattle.int_set.proofs.Laws.{fit, unfit, same-long}
+
+module _ (marks keys : List ℕ) (at : ℕ) where
+  -- the slots of a step
+  module _ (g : ℕ) {r : Next} (p : r ≡ nexting marks at (at + g)) where
+    pub pace-live : {j : ℕ} → r ≡ next.Live j → stepNumbers (record { walk = record { at = j + 1 }; out = Member (getD keys j 0); examined = j + 1 - at }) ≡ paceOf (memory marks keys) at g
+    unfolding paceOf stepSaid stepNumbers pacedNumbers
+    pace-live {j} q = rw (paced-by nothing (memory marks keys) at g p q, add-one j)
+
+    pub pace-bad : r ≡ next.Bad → (s : Stride) → stepNumbers s ≡ stepSaid keyHanded at (no 5) → stepNumbers s ≡ paceOf (memory marks keys) at g
+    unfolding paceOf
+    pace-bad q s e = e ∙ (rw (paced-by nothing (memory marks keys) at g p q))
+
+    pub pace-none : r ≡ next.Nothing → stepNumbers (record { walk = record { at = at + g }; out = Nothing; examined = g }) ≡ paceOf (memory marks keys) at g
+    unfolding paceOf stepSaid stepNumbers pacedNumbers
+    pace-none q = rw (paced-by nothing (memory marks keys) at g p q)
+
+  -- the tests of a step, in order
+  module _ (budget : ℕ) {b : Bool} (p : b ≡ fitting marks keys) where
+    pub step-unfit : b ≡ false → (s : Stride) → stepNumbers s ≡ stepSaid keyHanded at (no 1) → stepNumbers s ≡ stepOf (memory marks keys) at budget
+    unfolding stepOf stepping need
+    step-unfit q s e = e ∙ (rw (unfit marks keys p q))
+
+    module _ (q : b ≡ true) where
+      pub step-unpaid : budget ≡ 0 → (s : Stride) → stepNumbers s ≡ stepSaid keyHanded at (no 3) → stepNumbers s ≡ stepOf (memory marks keys) at budget
+      unfolding stepOf stepping step need
+      step-unpaid z s e = e ∙ (rw (fit marks keys p q, z))
+
+      -- within the reach all slots are there
+      pub pace-fits : {g : ℕ} → at ≤ length marks → g ≡ reachOf (length marks) at budget → (at + g ≤ length marks) × (length keys ≡ length marks)
+      pace-fits l e = (omega (arith, reach-high (length marks) at budget), same-long marks keys p q)
+
+      module _ (h : budget ≡ 0 → ⊥) where
+        pub step-beyond : length marks < at → (s : Stride) → stepNumbers s ≡ stepSaid keyHanded at (no 4) → stepNumbers s ≡ stepOf (memory marks keys) at budget
+        unfolding stepOf stepping step need
+        step-beyond l s e = e ∙ (rw (fit marks keys p q, ne-eqb budget 0 h, lt-leb at (length marks) l))
+
+        pub step-done : at ≡ length marks → stepNumbers (record { walk = record { at = at }; out = Done; examined = 0 }) ≡ stepOf (memory marks keys) at budget
+        unfolding stepOf stepping step need pass pace stepSaid stepNumbers pacedNumbers
+        step-done e = rw (fit marks keys p q, ne-eqb budget 0 h, le-leb at (length marks) (omega arith), eq-eqb at (length marks) e)
+
+        pub step-pace : at ≤ length marks → (at ≡ length marks → ⊥) → {g : ℕ} → g ≡ reachOf (length marks) at budget → (s : Stride) → stepNumbers s ≡ paceOf (memory marks keys) at g → stepNumbers s ≡ stepOf (memory marks keys) at budget
+        unfolding stepOf stepping step need pass pace paceOf
+        step-pace l n {g} e s d = d ∙ (rw (fit marks keys p q, ne-eqb budget 0 h, le-leb at (length marks) l, ne-eqb at (length marks) n, e))

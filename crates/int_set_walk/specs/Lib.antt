@@ -1,0 +1,3 @@
+-- The definitions of walks of integer sets.
+pub mod Calls
+pub mod Numbers
