@@ -1,9 +1,9 @@
--- `byte_set::is_empty` meets its contract: as the length, told as whether it is 0.
+-- `byte_set_reads::is_empty` meets its contract: as the length, told as whether it is 0.
 use borrow.Author.Needs.{needs}
 use Rattle.spans.specs.Kinds.{sets}
 use Rattle.kinds.proofs.Counts.{empty-none, empty-some, empty-not}
-use Rattle.byte_set.proofs.is_empty.Statement.{statement}
-use Rattle.byte_set.proofs.is_empty.Tie as tie
+use Rattle.byte_set_reads.proofs.is_empty.Statement.{statement}
+use Rattle.byte_set_reads.proofs.is_empty.Tie as tie
 
 len-requires : tie.Need-len-requires
 len-requires c κs = search needs

@@ -1,10 +1,10 @@
--- `byte_set::len` meets its contract: refusal 1 or 5, or the number of live marks.
+-- `byte_set_reads::len` meets its contract: refusal 1 or 5, or the number of live marks.
 use mathlib.Core.Path.{sym, _∙_}
 use borrow.Author.Needs.{needs}
 use Rattle.spans.proofs.Sizes.{fitting-says}
-use Rattle.byte_set.proofs.Laws.{len-live, len-bad, len-not}
-use Rattle.byte_set.proofs.len.Statement.{statement}
-use Rattle.byte_set.proofs.len.Tie as tie
+use Rattle.byte_set_reads.proofs.Laws.{len-live, len-bad, len-not}
+use Rattle.byte_set_reads.proofs.len.Statement.{statement}
+use Rattle.byte_set_reads.proofs.len.Tie as tie
 
 fits-requires : tie.Need-fits-requires
 fits-requires c κs = search needs

@@ -1,8 +1,8 @@
--- `byte_set::capacity` meets its contract: refusal 1, or the number of slots.
+-- `byte_set_reads::capacity` meets its contract: refusal 1, or the number of slots.
 use borrow.Author.Needs.{needs}
-use Rattle.byte_set.proofs.Laws.{capacity-done, capacity-not}
-use Rattle.byte_set.proofs.capacity.Statement.{statement}
-use Rattle.byte_set.proofs.capacity.Tie as tie
+use Rattle.byte_set_reads.proofs.Laws.{capacity-done, capacity-not}
+use Rattle.byte_set_reads.proofs.capacity.Statement.{statement}
+use Rattle.byte_set_reads.proofs.capacity.Tie as tie
 
 fits-requires : tie.Need-fits-requires
 fits-requires c κs = search needs

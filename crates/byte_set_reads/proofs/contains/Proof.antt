@@ -1,10 +1,10 @@
--- `byte_set::contains` meets its contract: what the probing found.
+-- `byte_set_reads::contains` meets its contract: what the probing found.
 use borrow.Author.Needs.{needs}
 use Rattle.answers.specs.Numbers.{containedNumbers}
 use Rattle.answers.specs.Said.{containedSaid}
-use Rattle.byte_set.proofs.Laws.{contains-says}
-use Rattle.byte_set.proofs.contains.Statement.{statement}
-use Rattle.byte_set.proofs.contains.Tie as tie
+use Rattle.byte_set_reads.proofs.Laws.{contains-says}
+use Rattle.byte_set_reads.proofs.contains.Statement.{statement}
+use Rattle.byte_set_reads.proofs.contains.Tie as tie
 
 probe-requires : tie.Need-probe-requires
 probe-requires c κs = search needs

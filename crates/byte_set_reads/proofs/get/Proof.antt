@@ -1,10 +1,10 @@
--- `byte_set::get` meets its contract: what the probing found, with the stored key's span.
+-- `byte_set_reads::get` meets its contract: what the probing found, with the stored key's span.
 use borrow.Author.Needs.{needs}
 use Rattle.answers.specs.Numbers.{spannedNumbers}
 use Rattle.answers.specs.Said.{spannedSaid}
-use Rattle.byte_set.proofs.Laws.{get-says, get-inside, get-found}
-use Rattle.byte_set.proofs.get.Statement.{statement}
-use Rattle.byte_set.proofs.get.Tie as tie
+use Rattle.byte_set_reads.proofs.Laws.{get-says, get-inside, get-found}
+use Rattle.byte_set_reads.proofs.get.Statement.{statement}
+use Rattle.byte_set_reads.proofs.get.Tie as tie
 
 probe-requires : tie.Need-probe-requires
 probe-requires c κs = search needs
