@@ -31,8 +31,9 @@ use Rattle.spans.specs.Planning.{placedBy, roomFor, placing}
 use Rattle.spans.specs.Probing.{pathFrom, pathOf}
 use Rattle.spans.proofs.Bridge.{spot-is, short-refused, kept-no}
 use Rattle.arena.specs.Needs.{Fillable}
-use Rattle.byte_map.specs.Seeking.{placingMap}
-use Rattle.byte_map.proofs.Seeking.{by-long, place-free}
+use Rattle.byte_reads.proofs.Seeking.{by-long}
+use Rattle.byte_map.specs.Planning.{placingMap}
+use Rattle.byte_map.proofs.Planning.{place-free}
 use Rattle.byte_handles.specs.declared.Fresh.{Fresh}
 use Rattle.byte_handles.specs.declared.Fresh.the-variants as fresh
 use Rattle.byte_handles.specs.declared.Standing.the-variants as standing

@@ -14,7 +14,7 @@ use Rattle.spans.specs.declared.Placed.the-variants as placed
 use Rattle.spans.specs.Kinds.{maps}
 use Rattle.spans.specs.Memory.{Strings, usedOf, harmful, askedOf}
 use Rattle.spans.specs.Probing.{sightAt}
-use Rattle.byte_map.specs.Seeking.{sizedOf}
+use Rattle.byte_reads.specs.Seeking.{sizedOf}
 use Rattle.byte_handles.specs.declared.Fresh.{Fresh}
 use Rattle.byte_handles.specs.declared.Fresh.the-variants as fresh
 use Rattle.byte_handles.specs.declared.Held.{Held}

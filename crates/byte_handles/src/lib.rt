@@ -7,7 +7,7 @@ ghost use Rattle.spans.specs.Kinds.{maps, mapMemory};
 ghost use Rattle.byte_handles.specs.Numbers.{heldNumbers, swappedNumbers, takenNumbers, standingNumbers};
 ghost use Rattle.byte_handles.specs.Planning.{heldBy, gripping, holding, pulledBy, pulling, freshBy};
 use answers::Refusal;
-use byte_map::map_fits;
+use byte_reads::map_fits;
 use kinds::Sight;
 use spans::Placed;
 use spans::Surveyed;

@@ -1,8 +1,8 @@
--- `byte_map::contains_key` meets its contract: what the probing found.
+-- `byte_reads::contains_key` meets its contract: what the probing found.
 use borrow.Author.Needs.{needs}
-use Rattle.byte_map.proofs.Laws.{contains-hit, contains-free, contains-full, contains-refused}
-use Rattle.byte_map.proofs.contains_key.Statement.{statement}
-use Rattle.byte_map.proofs.contains_key.Tie as tie
+use Rattle.byte_reads.proofs.Laws.{contains-hit, contains-free, contains-full, contains-refused}
+use Rattle.byte_reads.proofs.contains_key.Statement.{statement}
+use Rattle.byte_reads.proofs.contains_key.Tie as tie
 
 seek-requires : tie.Need-seek-requires
 seek-requires c κs = search needs

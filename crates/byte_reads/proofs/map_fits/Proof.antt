@@ -1,8 +1,8 @@
--- `byte_map::map_fits` meets its contract: the keys' arrays first, then the values.
+-- `byte_reads::map_fits` meets its contract: the keys' arrays first, then the values.
 use borrow.Author.Needs.{needs}
-use Rattle.byte_map.proofs.Seeking.{map-fits-more, map-fits-not}
-use Rattle.byte_map.proofs.map_fits.Statement.{statement}
-use Rattle.byte_map.proofs.map_fits.Tie as tie
+use Rattle.byte_reads.proofs.Seeking.{map-fits-more, map-fits-not}
+use Rattle.byte_reads.proofs.map_fits.Statement.{statement}
+use Rattle.byte_reads.proofs.map_fits.Tie as tie
 
 fits-requires : tie.Need-fits-requires
 fits-requires c κs = search needs

@@ -1,9 +1,9 @@
--- `byte_map::reserve` meets its contract: refusals 1, 5 and 7, or room.
+-- `byte_reads::reserve` meets its contract: refusals 1, 5 and 7, or room.
 use borrow.Author.Needs.{needs}
 use native.Mathlib.Omega.{arith}
 use Rattle.kinds.proofs.Counts.{count-within, reserve-room, reserve-none, reserve-not}
-use Rattle.byte_map.proofs.reserve.Statement.{statement}
-use Rattle.byte_map.proofs.reserve.Tie as tie
+use Rattle.byte_reads.proofs.reserve.Statement.{statement}
+use Rattle.byte_reads.proofs.reserve.Tie as tie
 
 len-requires : tie.Need-len-requires
 len-requires c κs = search needs

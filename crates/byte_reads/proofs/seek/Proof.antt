@@ -1,8 +1,8 @@
--- `byte_map::seek` meets its contract: refusal 1 where the values do not fit, else the probing.
+-- `byte_reads::seek` meets its contract: refusal 1 where the values do not fit, else the probing.
 use borrow.Author.Needs.{needs}
-use Rattle.byte_map.proofs.Seeking.{seek-long, seek-short}
-use Rattle.byte_map.proofs.seek.Statement.{statement}
-use Rattle.byte_map.proofs.seek.Tie as tie
+use Rattle.byte_reads.proofs.Seeking.{seek-long, seek-short}
+use Rattle.byte_reads.proofs.seek.Statement.{statement}
+use Rattle.byte_reads.proofs.seek.Tie as tie
 
 probe-requires : tie.Need-probe-requires
 probe-requires c κs = search needs

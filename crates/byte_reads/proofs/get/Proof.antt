@@ -1,10 +1,10 @@
--- `byte_map::get` meets its contract: what the probing found, with the value in its slot.
+-- `byte_reads::get` meets its contract: what the probing found, with the value in its slot.
 use borrow.Author.Needs.{needs}
 use native.Mathlib.Omega.{arith}
-use Rattle.byte_map.proofs.Seeking.{seek-inside}
-use Rattle.byte_map.proofs.Laws.{get-hit, get-free, get-full, get-refused}
-use Rattle.byte_map.proofs.get.Statement.{statement}
-use Rattle.byte_map.proofs.get.Tie as tie
+use Rattle.byte_reads.proofs.Seeking.{seek-inside}
+use Rattle.byte_reads.proofs.Laws.{get-hit, get-free, get-full, get-refused}
+use Rattle.byte_reads.proofs.get.Statement.{statement}
+use Rattle.byte_reads.proofs.get.Tie as tie
 
 seek-requires : tie.Need-seek-requires
 seek-requires c κs = search needs

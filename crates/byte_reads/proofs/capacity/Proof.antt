@@ -1,8 +1,8 @@
--- `byte_map::capacity` meets its contract: refusal 1, or the number of slots.
+-- `byte_reads::capacity` meets its contract: refusal 1, or the number of slots.
 use borrow.Author.Needs.{needs}
-use Rattle.byte_map.proofs.Counting.{capacity-done, capacity-not}
-use Rattle.byte_map.proofs.capacity.Statement.{statement}
-use Rattle.byte_map.proofs.capacity.Tie as tie
+use Rattle.byte_reads.proofs.Counting.{capacity-done, capacity-not}
+use Rattle.byte_reads.proofs.capacity.Statement.{statement}
+use Rattle.byte_reads.proofs.capacity.Tie as tie
 
 map-fits-requires : tie.Need-map-fits-requires
 map-fits-requires c κs = search needs

@@ -1,4 +1,4 @@
--- The sizes of a byte map, the probing of a key in it, and the plans of insert and remove: refusal 1 where there are not as many values as marks.
+-- The sizes of a byte map and the probing of a key in it: refusal 1 where there are not as many values as marks.
 use Prim.Native.Nat.{ℕ}
 use mathlib.Core.Bool.{Bool, cond}
 use mathlib.Core.List.{List}
@@ -8,13 +8,8 @@ use Rattle.answers.specs.declared.Refusal.the-variants.{Sizes}
 use Rattle.kinds.specs.declared.Probed.{Probed}
 use Rattle.kinds.specs.declared.Probed.the-variants as probed
 use Rattle.kinds.specs.Columns.{values}
-use Rattle.spans.specs.declared.Placed.{Placed}
-use Rattle.spans.specs.declared.Placed.the-variants as placed
-use Rattle.spans.specs.declared.Located.{Located}
-use Rattle.spans.specs.declared.Located.the-variants as located
 use Rattle.spans.specs.Memory.{Strings}
 use Rattle.spans.specs.Probing.{probing}
-use Rattle.spans.specs.Planning.{placing, locating}
 
 -- Whether the lent lists have sizes that a table may have, at any store.
 unfoldable pub sizedOf : {K W : Type 0} (M : Store K W) → M .State → Bool
@@ -27,11 +22,3 @@ whereLong m a n = cond (values .long (m .words) (length (m .spans .marks))) a n
 -- The probing of a key.
 unfoldable pub seekingMap : Strings values → List ℕ → Probed
 seekingMap m k = whereLong m (probing (m .spans) k) (probed.Refused Sizes)
-
--- The plan of insert.
-unfoldable pub placingMap : Strings values → List ℕ → Placed
-placingMap m k = whereLong m (placing (m .spans) k) (placed.Refused Sizes)
-
--- The plan of remove.
-unfoldable pub locatingMap : Strings values → List ℕ → Located
-locatingMap m k = whereLong m (locating (m .spans) k) (located.Refused Sizes)

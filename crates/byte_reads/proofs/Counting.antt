@@ -1,17 +1,15 @@
--- What the tests and callees of make, capacity and len say of their definitions, at any store.
+-- What the tests and callees of capacity and len say of their definitions, at any store.
 use Prim.Native.Nat.{ℕ}
 use mathlib.Core.Bool.{Bool, true, false}
 use mathlib.Core.Path.{_≡_, sym, _∙_}
-use Rattle.model.specs.Calls.{need, acted, capacity, after-make, length}
+use Rattle.model.specs.Calls.{need, capacity, length}
 use Rattle.model.specs.Store.{Store, live-count, hurtful}
 use Rattle.answers.specs.declared.Refusal.the-variants.{Sizes, Damaged}
-use Rattle.answers.specs.declared.Outcome.the-variants as outcome
 use Rattle.answers.specs.declared.Counted.the-variants as counted
-use Rattle.answers.specs.Numbers.{outcomeNumbers, countedNumbers}
-use Rattle.answers.specs.Said.{doneSaid, countSaid}
-use Rattle.kinds.specs.Told.{told}
-use Rattle.kinds.specs.Calls.{makeOf, capacityOf, lenOf}
-use Rattle.byte_map.specs.Seeking.{sizedOf}
+use Rattle.answers.specs.Numbers.{countedNumbers}
+use Rattle.answers.specs.Said.{countSaid}
+use Rattle.kinds.specs.Calls.{capacityOf, lenOf}
+use Rattle.byte_reads.specs.Seeking.{sizedOf}
 
 module _ {K W : Type 0} (M : Store K W) (m : M .State) where
   -- by the test of the sizes
@@ -19,15 +17,6 @@ module _ {K W : Type 0} (M : Store K W) (m : M .State) where
     pub sized-as : {t : Bool} → b ≡ t → M .sized m ≡ t
     unfolding sizedOf
     sized-as q = sym p ∙ q
-
-    -- make and clear
-    pub make-done : b ≡ true → {x : M .State} → x ≡ M .wipe m → told (outcomeNumbers outcome.Done) x ≡ makeOf M m
-    unfolding makeOf capacity after-make acted need doneSaid outcomeNumbers
-    make-done q e = rw (sized-as q, e)
-
-    pub make-not : b ≡ false → told (outcomeNumbers (outcome.Refused Sizes)) m ≡ makeOf M m
-    unfolding makeOf capacity after-make acted need doneSaid outcomeNumbers
-    make-not q = rw (sized-as q)
 
     -- capacity
     pub capacity-done : b ≡ true → countedNumbers (counted.Count (M .size m)) ≡ capacityOf M m

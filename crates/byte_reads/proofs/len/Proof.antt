@@ -1,9 +1,9 @@
--- `byte_map::len` meets its contract: refusal 1 or 5, or the number of live slots.
+-- `byte_reads::len` meets its contract: refusal 1 or 5, or the number of live slots.
 use borrow.Author.Needs.{needs}
-use Rattle.byte_map.proofs.Counting.{len-not}
-use Rattle.byte_map.proofs.Laws.{same-long, len-live, len-bad}
-use Rattle.byte_map.proofs.len.Statement.{statement}
-use Rattle.byte_map.proofs.len.Tie as tie
+use Rattle.byte_reads.proofs.Counting.{len-not}
+use Rattle.byte_reads.proofs.Laws.{same-long, len-live, len-bad}
+use Rattle.byte_reads.proofs.len.Statement.{statement}
+use Rattle.byte_reads.proofs.len.Tie as tie
 
 map-fits-requires : tie.Need-map-fits-requires
 map-fits-requires c κs = search needs

@@ -1,8 +1,8 @@
--- `byte_map::is_empty` meets its contract: as the length, told as whether it is 0.
+-- `byte_reads::is_empty` meets its contract: as the length, told as whether it is 0.
 use borrow.Author.Needs.{needs}
 use Rattle.kinds.proofs.Counts.{empty-none, empty-some, empty-not}
-use Rattle.byte_map.proofs.is_empty.Statement.{statement}
-use Rattle.byte_map.proofs.is_empty.Tie as tie
+use Rattle.byte_reads.proofs.is_empty.Statement.{statement}
+use Rattle.byte_reads.proofs.is_empty.Tie as tie
 
 len-requires : tie.Need-len-requires
 len-requires c κs = search needs
