@@ -1,4 +1,4 @@
-// The byte map for C: each call as byte_map, byte_copy, byte_union and byte_walk have it, its answer as numbers.
+// The byte map for C: each call as byte_map, byte_reads, byte_copy, byte_union and byte_walk have it, its answer as numbers.
 ghost use mathlib.Core.Path.{_≡_};
 ghost use Rattle.kinds.specs.Told.{told};
 ghost use Rattle.lent.specs.Moved.{movedOn};

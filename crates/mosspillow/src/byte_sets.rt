@@ -1,4 +1,4 @@
-// The byte set for C: each call as byte_set, byte_set_copy and byte_set_walk have it, its answer as numbers.
+// The byte set for C: each call as byte_set, byte_set_reads, byte_set_copy and byte_set_walk have it, its answer as numbers.
 ghost use mathlib.Core.Path.{_≡_};
 ghost use Rattle.kinds.specs.Told.{told};
 ghost use Rattle.lent.specs.Moved.{movedOn};

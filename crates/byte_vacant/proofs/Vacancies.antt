@@ -3,7 +3,6 @@ use Prim.Native.Nat.{ℕ, _≤_, _<_}
 use mathlib.Core.Bool.{Bool, true, false}
 use mathlib.Core.List.{List}
 use mathlib.Core.Path.{_≡_, refl, sym, _∙_}
-use native.Mathlib.Omega.{arith}
 use borrow.Author.Tests.{eq-eqb, ne-eqb, eqb-true, lt-ltb, le-ltb}
 use lib.Dec.{eqb, ltb}
 use lib.ListN.{length, getD, set}
@@ -31,18 +30,14 @@ use Rattle.spans.specs.Planning.{placedBy, roomFor, placing}
 use Rattle.spans.specs.Probing.{pathFrom, pathOf}
 use Rattle.spans.proofs.Bridge.{spot-is, short-refused, kept-no}
 use Rattle.arena.specs.Needs.{Fillable}
-use Rattle.byte_reads.proofs.Seeking.{by-long}
+use Rattle.byte_reads.proofs.Seeking.{clash, by-long}
 use Rattle.byte_map.specs.Planning.{placingMap}
 use Rattle.byte_map.proofs.Planning.{place-free}
-use Rattle.byte_handles.specs.declared.Fresh.{Fresh}
-use Rattle.byte_handles.specs.declared.Fresh.the-variants as fresh
-use Rattle.byte_handles.specs.declared.Standing.the-variants as standing
-use Rattle.byte_handles.specs.Numbers.{standingNumbers}
-use Rattle.byte_handles.specs.Planning.{freshBy}
-
--- two answers that cannot be equal
-clash : {A : Type 0} → _≡_ {A = ℕ} 0 1 → A
-clash e = absurd (omega arith)
+use Rattle.byte_vacant.specs.declared.Fresh.{Fresh}
+use Rattle.byte_vacant.specs.declared.Fresh.the-variants as fresh
+use Rattle.byte_vacant.specs.declared.Standing.the-variants as standing
+use Rattle.byte_vacant.specs.Numbers.{standingNumbers}
+use Rattle.byte_vacant.specs.Planning.{freshBy}
 
 -- What a vacant handle's plan says in the theory's words.
 abbrev worthOf : Fresh → Or (Unit {0})

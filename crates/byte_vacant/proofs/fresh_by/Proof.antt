@@ -1,8 +1,8 @@
--- `byte_handles::fresh_by` meets its contract: the free slot is the handle's own, or the handle is refused.
-use Rattle.byte_handles.proofs.Vacancies.{fresh-here, fresh-elsewhere, fresh-hit, fresh-above, fresh-refused}
+-- `byte_vacant::fresh_by` meets its contract: the free slot is the handle's own, or the handle is refused.
+use Rattle.byte_vacant.proofs.Vacancies.{fresh-here, fresh-elsewhere, fresh-hit, fresh-above, fresh-refused}
 use borrow.Author.Needs.{needs}
-use Rattle.byte_handles.proofs.fresh_by.Statement.{statement}
-use Rattle.byte_handles.proofs.fresh_by.Tie as tie
+use Rattle.byte_vacant.proofs.fresh_by.Statement.{statement}
+use Rattle.byte_vacant.proofs.fresh_by.Tie as tie
 
 enum-known-plan : tie.Need-enum-known-plan
 enum-known-plan c = search needs

@@ -1,8 +1,8 @@
 -- `Vacant::insert` meets its contract: a good handle's slot takes the pair, a refusal leaves all.
-use Rattle.byte_handles.proofs.Vacancies.{fresh-fillable, fresh-inside, insert-done, insert-refused}
+use Rattle.byte_vacant.proofs.Vacancies.{fresh-fillable, fresh-inside, insert-done, insert-refused}
 use borrow.Author.Needs.{needs}
-use Rattle.byte_handles.proofs.Vacant.insert.Statement.{statement}
-use Rattle.byte_handles.proofs.Vacant.insert.Tie as tie
+use Rattle.byte_vacant.proofs.Vacant.insert.Statement.{statement}
+use Rattle.byte_vacant.proofs.Vacant.insert.Tie as tie
 
 place-requires : tie.Need-place-requires
 place-requires c κs = search needs
