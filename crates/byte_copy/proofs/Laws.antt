@@ -18,9 +18,9 @@ use Rattle.kinds.specs.Told.{told}
 use Rattle.kinds.specs.Calls.{copyOf}
 use Rattle.spans.specs.Memory.{Strings}
 use Rattle.spans.specs.Kinds.{maps, mapMemory}
-use Rattle.byte_map.specs.Seeking.{sizedOf}
-use Rattle.byte_map.proofs.Counting.{sized-as}
-use Rattle.byte_map.proofs.Laws.{same-long}
+use Rattle.byte_reads.specs.Seeking.{sizedOf}
+use Rattle.byte_reads.proofs.Counting.{sized-as}
+use Rattle.byte_reads.proofs.Laws.{same-long}
 
 -- copy from n onto m, by its tests in order
 module _ {K W : Type 0} (M : Store K W) (m n : M .State) {b : Bool} (p : b ≡ sizedOf M m) where

@@ -22,8 +22,9 @@ use Rattle.byte_handles.specs.declared.Held.{Held}
 use Rattle.byte_handles.specs.declared.Held.the-variants as held
 use Rattle.byte_handles.specs.declared.Swapped.{Swapped}
 use Rattle.byte_handles.specs.declared.Swapped.the-variants as swapped
-use Rattle.byte_handles.specs.declared.Standing.the-variants as standing
-use Rattle.byte_handles.specs.Numbers.{heldNumbers, swappedNumbers, standingNumbers}
+use Rattle.byte_handles.specs.Numbers.{heldNumbers, swappedNumbers}
+use Rattle.byte_vacant.specs.declared.Standing.the-variants as standing
+use Rattle.byte_vacant.specs.Numbers.{standingNumbers}
 use Rattle.byte_entry.proofs.Entered.{the-type}
 use Rattle.byte_entry.specs.declared.Entered.{Entered}
 use Rattle.byte_entry.specs.declared.Entered.the-variants as entered

@@ -13,8 +13,8 @@ use Rattle.spans.specs.declared.Placed.the-variants as placed
 use Rattle.spans.specs.Kinds.{maps}
 use Rattle.spans.specs.Memory.{Strings}
 use Rattle.spans.proofs.Bridge.{spotOf}
-use Rattle.byte_map.specs.Seeking.{placingMap}
-use Rattle.byte_map.proofs.Seeking.{entry-planned}
+use Rattle.byte_map.specs.Planning.{placingMap}
+use Rattle.byte_map.proofs.Planning.{entry-planned}
 use Rattle.byte_entry.specs.declared.Entered.the-variants as entered
 use Rattle.byte_entry.specs.Numbers.{enteredNumbers}
 

@@ -8,8 +8,8 @@ use Rattle.kinds.specs.Told.{Settled, SettledWith}
 use Rattle.kinds.proofs.Settled.{settled, settled-with}
 use Rattle.spans.specs.Kinds.{maps}
 use Rattle.spans.specs.Memory.{Strings}
-use Rattle.byte_handles.specs.Numbers.{standingNumbers}
-use Rattle.byte_handles.proofs.Equal.{standingNumbers-injective}
+use Rattle.byte_vacant.specs.Numbers.{standingNumbers}
+use Rattle.byte_vacant.proofs.Equal.{standingNumbers-injective}
 use Rattle.byte_entry.specs.declared.Entered.{Entered}
 use Rattle.byte_entry.specs.Numbers.{enteredNumbers}
 use Rattle.byte_entry.specs.Calls.{handleOf}

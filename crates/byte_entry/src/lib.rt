@@ -4,20 +4,20 @@ ghost use lib.ListN.{length};
 ghost use Rattle.kinds.specs.Calls.{entryOf, orInsertOf, insertEntryOf};
 ghost use Rattle.kinds.specs.Told.{told};
 ghost use Rattle.spans.specs.Kinds.{maps, mapMemory};
-ghost use Rattle.byte_handles.specs.Numbers.{standingNumbers};
+ghost use Rattle.byte_vacant.specs.Numbers.{standingNumbers};
 ghost use Rattle.byte_entry.specs.Numbers.{enteredNumbers};
 ghost use Rattle.byte_entry.specs.Calls.{placeOf, handleOf};
 use answers::Refusal;
 use byte_map::place;
 use spans::Placed;
 
-// The handles and the answers of their calls stand in `byte_handles`, and are had here too.
+// The handles and the answers of their calls stand in `byte_handles` and `byte_vacant`, and are had here too.
 pub use byte_handles::Held;
 pub use byte_handles::Occupied;
-pub use byte_handles::Standing;
 pub use byte_handles::Swapped;
 pub use byte_handles::Taken;
-pub use byte_handles::Vacant;
+pub use byte_vacant::Standing;
+pub use byte_vacant::Vacant;
 
 // The answer of entry: an occupied handle with the value, or a vacant one, each with the examined number.
 pub enum Entered {

@@ -8,9 +8,7 @@ use Rattle.byte_handles.specs.declared.Swapped.{Swapped}
 use Rattle.byte_handles.specs.declared.Swapped.the-variants as swapped
 use Rattle.byte_handles.specs.declared.Taken.{Taken}
 use Rattle.byte_handles.specs.declared.Taken.the-variants as taken
-use Rattle.byte_handles.specs.declared.Standing.{Standing}
-use Rattle.byte_handles.specs.declared.Standing.the-variants as standing
-use Rattle.byte_handles.specs.Numbers.{heldNumbers, swappedNumbers, takenNumbers, standingNumbers}
+use Rattle.byte_handles.specs.Numbers.{heldNumbers, swappedNumbers, takenNumbers}
 
 pub heldNumbers-injective : (a b : Held) → heldNumbers a ≡ heldNumbers b → a ≡ b
 unfolding heldNumbers
@@ -32,10 +30,3 @@ takenNumbers-injective (taken.Removed v) (taken.Removed v′) q = cc (ap (λ n. 
 takenNumbers-injective (taken.Removed v) (taken.Refused r′) q = let z : ⊥ = omega (arith, ap (λ n. n .case) q) in absurd z
 takenNumbers-injective (taken.Refused r) (taken.Removed v′) q = let z : ⊥ = omega (arith, ap (λ n. n .case) q) in absurd z
 takenNumbers-injective (taken.Refused r) (taken.Refused r′) q = ap taken.Refused (numberOf-injective r r′ (ap (λ n. n .refusal) q))
-
-pub standingNumbers-injective : (a b : Standing) → standingNumbers a ≡ standingNumbers b → a ≡ b
-unfolding standingNumbers
-standingNumbers-injective (standing.Now h v) (standing.Now h′ v′) q = let z : h ≡ h′ = ap (λ s. record { slot = s }) (ap (λ n. n .slot) q) in cc (ap (λ n. n .value) q)
-standingNumbers-injective (standing.Now h v) (standing.Refused r′) q = let z : ⊥ = omega (arith, ap (λ n. n .case) q) in absurd z
-standingNumbers-injective (standing.Refused r) (standing.Now h′ v′) q = let z : ⊥ = omega (arith, ap (λ n. n .case) q) in absurd z
-standingNumbers-injective (standing.Refused r) (standing.Refused r′) q = ap standing.Refused (numberOf-injective r r′ (ap (λ n. n .refusal) q))

@@ -27,8 +27,8 @@ use Rattle.spans.specs.Memory.{Strings, keyAt, fitting, askedOf}
 use Rattle.spans.specs.Probing.{sightAt}
 use Rattle.spans.proofs.Bridge.{asked-no}
 use Rattle.spans.proofs.Marks.{slot-cell}
-use Rattle.byte_map.specs.Seeking.{sizedOf}
-use Rattle.byte_map.proofs.Laws.{same-long}
+use Rattle.byte_reads.specs.Seeking.{sizedOf}
+use Rattle.byte_reads.proofs.Laws.{same-long}
 use Rattle.byte_handles.specs.declared.Occupied.{Occupied}
 use Rattle.byte_handles.specs.declared.Held.{Held}
 use Rattle.byte_handles.specs.declared.Held.the-variants as held

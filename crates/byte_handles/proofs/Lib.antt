@@ -1,6 +1,5 @@
--- The laws of the byte map's handles.
+-- The laws of the byte map's occupied handles.
 pub mod Equal
 pub mod Grips
 pub mod Pulls
-pub mod Vacancies
 pub mod Settled

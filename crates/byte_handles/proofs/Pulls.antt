@@ -35,8 +35,8 @@ use Rattle.spans.proofs.Marks.{mark-raw}
 use Rattle.spans.proofs.Plans.{surveyed-bad, surveyed-used}
 use Rattle.spans.proofs.Sizes.{fitting-says}
 use Rattle.arena.specs.Needs.{Freeable}
-use Rattle.byte_map.specs.Seeking.{sizedOf}
-use Rattle.byte_map.proofs.Laws.{sized-fits, same-long}
+use Rattle.byte_reads.specs.Seeking.{sizedOf}
+use Rattle.byte_reads.proofs.Laws.{sized-fits, same-long}
 use Rattle.byte_handles.specs.declared.Held.{Held}
 use Rattle.byte_handles.specs.declared.Held.the-variants as held
 use Rattle.byte_handles.specs.declared.Pulled.{Pulled}

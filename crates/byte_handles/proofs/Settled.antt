@@ -1,14 +1,14 @@
 -- Each contract settles its answer and the lent arrays: two results that it allows are equal.
 use Prim.Native.Nat.{ℕ}
 use mathlib.Core.List.{List}
-use Rattle.kinds.specs.Calls.{heldOf, setOf, takenOf, standingOf}
+use Rattle.kinds.specs.Calls.{heldOf, setOf, takenOf}
 use Rattle.kinds.specs.Columns.{values}
 use Rattle.kinds.specs.Told.{Settled, SettledWith}
 use Rattle.kinds.proofs.Settled.{settled, settled-with}
 use Rattle.spans.specs.Kinds.{maps}
 use Rattle.spans.specs.Memory.{Strings}
-use Rattle.byte_handles.specs.Numbers.{heldNumbers, swappedNumbers, takenNumbers, standingNumbers}
-use Rattle.byte_handles.proofs.Equal.{heldNumbers-injective, swappedNumbers-injective, takenNumbers-injective, standingNumbers-injective}
+use Rattle.byte_handles.specs.Numbers.{heldNumbers, swappedNumbers, takenNumbers}
+use Rattle.byte_handles.proofs.Equal.{heldNumbers-injective, swappedNumbers-injective, takenNumbers-injective}
 
 module _ (m : Strings values) where
   -- `Occupied::get`.
@@ -26,7 +26,3 @@ module _ (m : Strings values) where
   -- `Occupied::remove_entry`.
   pub remove-entry-settled : (s : ℕ) (k : List ℕ) → SettledWith takenNumbers (takenOf maps m s k)
   remove-entry-settled s k = settled-with takenNumbers-injective
-
-  -- `Vacant::insert`.
-  pub insert-settled : (s : ℕ) (k : List ℕ) (v : ℕ) → SettledWith standingNumbers (standingOf maps m s k v)
-  insert-settled s k v = settled-with standingNumbers-injective

@@ -1,3 +1,3 @@
--- The definitions of the byte map's handles.
+-- The definitions of the byte map's occupied handles.
 pub mod Numbers
 pub mod Planning

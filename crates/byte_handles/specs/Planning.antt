@@ -1,22 +1,17 @@
--- The plans of the calls of handles: their tests in order, then what a slot or insert's plan says.
+-- The plans of the calls of occupied handles: their tests in order, then what a slot says.
 use Prim.Native.Nat.{ℕ}
 use mathlib.Core.Bool.{cond}
 use mathlib.Core.List.{List}
 use lib.Dec.{eqb, ltb}
 use lib.ListN.{length, getD}
 use Rattle.answers.specs.declared.Refusal.the-variants as refusal
-use Rattle.answers.specs.Refusals.{numberOf}
 use Rattle.kinds.specs.declared.Sight.{Sight}
 use Rattle.kinds.specs.declared.Sight.the-variants.{Never, Freed, Bad, Same, Other}
 use Rattle.kinds.specs.Columns.{values}
-use Rattle.spans.specs.declared.Placed.{Placed}
-use Rattle.spans.specs.declared.Placed.the-variants as placed
 use Rattle.spans.specs.Kinds.{maps}
 use Rattle.spans.specs.Memory.{Strings, usedOf, harmful, askedOf}
 use Rattle.spans.specs.Probing.{sightAt}
-use Rattle.byte_map.specs.Seeking.{sizedOf}
-use Rattle.byte_handles.specs.declared.Fresh.{Fresh}
-use Rattle.byte_handles.specs.declared.Fresh.the-variants as fresh
+use Rattle.byte_reads.specs.Seeking.{sizedOf}
 use Rattle.byte_handles.specs.declared.Held.{Held}
 use Rattle.byte_handles.specs.declared.Held.the-variants as held
 use Rattle.byte_handles.specs.declared.Pulled.{Pulled}
@@ -54,9 +49,3 @@ pulling m i k =
     (cond (harmful (m .spans)) (pulled.Refused refusal.Damaged) (pulledBy (usedOf (m .spans)) (gripping m i k)))
     (pulled.Refused refusal.LongKey))
     (pulled.Refused refusal.Sizes)
-
--- What a vacant handle of the slot i makes of insert's plan: refusals 1, 2 and 5 stay, and anything that insert would not do at that very slot is refused 6.
-unfoldable pub freshBy : ℕ → Placed → Fresh
-freshBy i (placed.Hit x e) = fresh.Refused refusal.BadHandle
-freshBy i (placed.Free x e u) = cond (eqb i x) (fresh.Used u) (fresh.Refused refusal.BadHandle)
-freshBy i (placed.Refused r) = cond (ltb 6 (numberOf r)) (fresh.Refused refusal.BadHandle) (fresh.Refused r)

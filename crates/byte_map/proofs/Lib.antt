@@ -1,5 +1,5 @@
--- The laws of byte maps.
-pub mod Counting
-pub mod Seeking
+-- The laws of the storing calls of byte maps.
+pub mod Making
+pub mod Planning
 pub mod Laws
 pub mod Settled

@@ -1,2 +1,2 @@
--- The definitions of byte maps.
-pub mod Seeking
+-- The definitions of the storing calls of byte maps.
+pub mod Planning

@@ -1,3 +1,3 @@
--- The laws of byte sets.
+-- The laws of the storing calls of byte sets.
 pub mod Laws
 pub mod Settled

@@ -15,8 +15,8 @@ use Rattle.kinds.specs.Calls.{copyOf}
 use Rattle.kinds.specs.Told.{told}
 use Rattle.spans.specs.Memory.{Spans, spansOf, fitting}
 use Rattle.spans.specs.Kinds.{sets}
+use Rattle.spans.proofs.Sets.{setOf, fit, unfit}
 use Rattle.spans.proofs.Sizes.{fitting-says}
-use Rattle.byte_set.proofs.Laws.{setOf, fit, unfit}
 
 -- an array of equal length is copied whole
 copied-whole : (to from : List ℕ) {a : List ℕ} → length to ≡ length from → a ≡ copied to from → a ≡ from

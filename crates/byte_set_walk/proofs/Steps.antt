@@ -19,10 +19,10 @@ use Rattle.spans.specs.Memory.{Spans, fitting}
 use Rattle.spans.specs.Kinds.{setPaceOf, setStepOf}
 use Rattle.spans.specs.Scanning.{nexting}
 use Rattle.spans.proofs.Bridge.{paced-by}
+use Rattle.spans.proofs.Sets.{setOf, fit, unfit}
 use Rattle.byte_set_walk.specs.declared.Paced.the-variants.{Member, Nothing, Done}
 use Rattle.byte_set_walk.specs.declared.Stride.{Stride}
 use Rattle.byte_set_walk.specs.Numbers.{pacedNumbers, stepNumbers, refusedNumbers}
-use Rattle.byte_set.proofs.Laws.{setOf, fit, unfit}
 
 -- within the reach all slots are there
 pub pace-fits : (S at budget : ℕ) {g : ℕ} → at ≤ S → g ≡ reachOf S at budget → at + g ≤ S

@@ -23,7 +23,7 @@ use Rattle.spans.proofs.Bridge.{path-is, used-is}
 use Rattle.spans.proofs.Held.{bare-damaged, unharmed-whole}
 use Rattle.spans.proofs.Marks.{slot-cell}
 use Rattle.spans.proofs.Sizes.{fitting-says}
-use Rattle.byte_map.specs.Seeking.{sizedOf}
+use Rattle.byte_reads.specs.Seeking.{sizedOf}
 use Rattle.byte_union.specs.declared.Planned.the-variants.{Refused}
 use Rattle.byte_union.specs.Needs.{missing, lackOf, lacksOf, roomOf, planned, planOf}
 

@@ -14,7 +14,7 @@ ghost use Rattle.byte_union.specs.Stores.{Ready, Storable, pairAt, pairs
 use answers::Outcome;
 use answers::Refusal;
 use arena::fill;
-use byte_map::map_fits;
+use byte_reads::map_fits;
 use kinds::Probed;
 use kinds::count_mark;
 use spans::Surveyed;

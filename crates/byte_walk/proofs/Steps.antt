@@ -19,9 +19,9 @@ use Rattle.spans.specs.Memory.{Strings}
 use Rattle.spans.specs.Kinds.{maps, paceOf, stepOf}
 use Rattle.spans.specs.Scanning.{nexting}
 use Rattle.spans.proofs.Bridge.{paced-by}
-use Rattle.byte_map.specs.Seeking.{sizedOf}
-use Rattle.byte_map.proofs.Counting.{sized-as}
-use Rattle.byte_map.proofs.Laws.{same-long}
+use Rattle.byte_reads.specs.Seeking.{sizedOf}
+use Rattle.byte_reads.proofs.Counting.{sized-as}
+use Rattle.byte_reads.proofs.Laws.{same-long}
 use Rattle.byte_walk.specs.declared.Paced.the-variants.{Pair, Nothing, Done}
 use Rattle.byte_walk.specs.declared.Stride.{Stride}
 use Rattle.byte_walk.specs.Numbers.{pacedNumbers, refusedNumbers, stepNumbers}

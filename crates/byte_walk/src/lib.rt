@@ -7,7 +7,7 @@ ghost use Rattle.lent.specs.Moved.{movedOn};
 ghost use Rattle.spans.specs.Kinds.{mapMemory, paceOf, stepOf};
 ghost use Rattle.byte_walk.specs.Numbers.{refusedNumbers, stepNumbers};
 use answers::Refusal;
-use byte_map::map_fits;
+use byte_reads::map_fits;
 use kinds::Next;
 use kinds::reach;
 use spans::len_at;

@@ -7,7 +7,7 @@ ghost use Rattle.spans.specs.Kinds.{maps, mapMemory};
 ghost use Rattle.numbers.specs.Handed.{handleAs};
 use answers::Numbers;
 use byte_handles::Occupied;
-use byte_handles::Vacant;
+use byte_vacant::Vacant;
 use numbers::byte_entries::entered;
 use numbers::byte_entries::entered_numbers;
 use numbers::byte_entries::held_numbers;

@@ -1,4 +1,4 @@
-// The byte map for C: each call as byte_map, byte_copy, byte_union and byte_walk have it, its answer as numbers.
+// The byte map for C: each call as byte_map, byte_reads, byte_copy, byte_union and byte_walk have it, its answer as numbers.
 ghost use mathlib.Core.Path.{_≡_};
 ghost use Rattle.kinds.specs.Told.{told};
 ghost use Rattle.lent.specs.Moved.{movedOn};
@@ -55,7 +55,7 @@ pub extern "C" fn moss_byte_map_capacity(
 ) -> Numbers
     ensures { λ r. ⌜ r ≡ capacityOf maps (mapMemory (now (marks .entry)) (now (offsets .entry)) (now (lengths .entry)) (now (values .entry)) (now (arena .entry))) ⌝ }
 {
-    counted_numbers(byte_map::capacity(marks, offsets, lengths, values, arena))
+    counted_numbers(byte_reads::capacity(marks, offsets, lengths, values, arena))
 }
 
 // The number of keys.
@@ -69,7 +69,7 @@ pub extern "C" fn moss_byte_map_len(
 ) -> Numbers
     ensures { λ r. ⌜ r ≡ lenOf maps (mapMemory (now (marks .entry)) (now (offsets .entry)) (now (lengths .entry)) (now (values .entry)) (now (arena .entry))) ⌝ }
 {
-    counted_numbers(byte_map::len(marks, offsets, lengths, values, arena))
+    counted_numbers(byte_reads::len(marks, offsets, lengths, values, arena))
 }
 
 // Whether there is no key.
@@ -83,7 +83,7 @@ pub extern "C" fn moss_byte_map_is_empty(
 ) -> Numbers
     ensures { λ r. ⌜ r ≡ isEmptyOf maps (mapMemory (now (marks .entry)) (now (offsets .entry)) (now (lengths .entry)) (now (values .entry)) (now (arena .entry))) ⌝ }
 {
-    emptiness_numbers(byte_map::is_empty(marks, offsets, lengths, values, arena))
+    emptiness_numbers(byte_reads::is_empty(marks, offsets, lengths, values, arena))
 }
 
 // Whether so many slots are not live.
@@ -98,7 +98,7 @@ pub extern "C" fn moss_byte_map_reserve(
 ) -> Numbers
     ensures { λ r. ⌜ r ≡ reserveOf maps (mapMemory (now (marks .entry)) (now (offsets .entry)) (now (lengths .entry)) (now (values .entry)) (now (arena .entry))) asked ⌝ }
 {
-    reserved_numbers(byte_map::reserve(marks, offsets, lengths, values, arena, asked))
+    reserved_numbers(byte_reads::reserve(marks, offsets, lengths, values, arena, asked))
 }
 
 // The value of a key.
@@ -113,7 +113,7 @@ pub extern "C" fn moss_byte_map_get(
 ) -> Numbers
     ensures { λ r. ⌜ r ≡ getOf maps (mapMemory (now (marks .entry)) (now (offsets .entry)) (now (lengths .entry)) (now (values .entry)) (now (arena .entry))) (now (key .entry)) ⌝ }
 {
-    got_numbers(byte_map::get(marks, offsets, lengths, values, arena, key))
+    got_numbers(byte_reads::get(marks, offsets, lengths, values, arena, key))
 }
 
 // Whether a key is there.
@@ -128,7 +128,7 @@ pub extern "C" fn moss_byte_map_contains_key(
 ) -> Numbers
     ensures { λ r. ⌜ r ≡ containsOf maps (mapMemory (now (marks .entry)) (now (offsets .entry)) (now (lengths .entry)) (now (values .entry)) (now (arena .entry))) (now (key .entry)) ⌝ }
 {
-    contained_numbers(byte_map::contains_key(marks, offsets, lengths, values, arena, key))
+    contained_numbers(byte_reads::contains_key(marks, offsets, lengths, values, arena, key))
 }
 
 // Gives a key its value.

@@ -1,4 +1,4 @@
-// The byte set for C: each call as byte_set, byte_set_copy and byte_set_walk have it, its answer as numbers.
+// The byte set for C: each call as byte_set, byte_set_reads, byte_set_copy and byte_set_walk have it, its answer as numbers.
 ghost use mathlib.Core.Path.{_≡_};
 ghost use Rattle.kinds.specs.Told.{told};
 ghost use Rattle.lent.specs.Moved.{movedOn};
@@ -52,7 +52,7 @@ pub extern "C" fn moss_byte_set_capacity(
 ) -> Numbers
     ensures { λ r. ⌜ r ≡ capacityOf sets (setMemory (now (marks .entry)) (now (offsets .entry)) (now (lengths .entry)) (now (arena .entry))) ⌝ }
 {
-    counted_numbers(byte_set::capacity(marks, offsets, lengths, arena))
+    counted_numbers(byte_set_reads::capacity(marks, offsets, lengths, arena))
 }
 
 // The number of keys.
@@ -65,7 +65,7 @@ pub extern "C" fn moss_byte_set_len(
 ) -> Numbers
     ensures { λ r. ⌜ r ≡ lenOf sets (setMemory (now (marks .entry)) (now (offsets .entry)) (now (lengths .entry)) (now (arena .entry))) ⌝ }
 {
-    counted_numbers(byte_set::len(marks, offsets, lengths, arena))
+    counted_numbers(byte_set_reads::len(marks, offsets, lengths, arena))
 }
 
 // Whether there is no key.
@@ -78,7 +78,7 @@ pub extern "C" fn moss_byte_set_is_empty(
 ) -> Numbers
     ensures { λ r. ⌜ r ≡ isEmptyOf sets (setMemory (now (marks .entry)) (now (offsets .entry)) (now (lengths .entry)) (now (arena .entry))) ⌝ }
 {
-    emptiness_numbers(byte_set::is_empty(marks, offsets, lengths, arena))
+    emptiness_numbers(byte_set_reads::is_empty(marks, offsets, lengths, arena))
 }
 
 // Whether so many slots are not live.
@@ -92,7 +92,7 @@ pub extern "C" fn moss_byte_set_reserve(
 ) -> Numbers
     ensures { λ r. ⌜ r ≡ reserveOf sets (setMemory (now (marks .entry)) (now (offsets .entry)) (now (lengths .entry)) (now (arena .entry))) asked ⌝ }
 {
-    reserved_numbers(byte_set::reserve(marks, offsets, lengths, arena, asked))
+    reserved_numbers(byte_set_reads::reserve(marks, offsets, lengths, arena, asked))
 }
 
 // Where the key is stored, where it is there.
@@ -106,7 +106,7 @@ pub extern "C" fn moss_byte_set_get(
 ) -> Numbers
     ensures { λ r. ⌜ r ≡ spanOf (setMemory (now (marks .entry)) (now (offsets .entry)) (now (lengths .entry)) (now (arena .entry))) (now (key .entry)) ⌝ }
 {
-    spanned_numbers(byte_set::get(marks, offsets, lengths, arena, key))
+    spanned_numbers(byte_set_reads::get(marks, offsets, lengths, arena, key))
 }
 
 // Whether a key is there.
@@ -120,7 +120,7 @@ pub extern "C" fn moss_byte_set_contains(
 ) -> Numbers
     ensures { λ r. ⌜ r ≡ containsOf sets (setMemory (now (marks .entry)) (now (offsets .entry)) (now (lengths .entry)) (now (arena .entry))) (now (key .entry)) ⌝ }
 {
-    contained_numbers(byte_set::contains(marks, offsets, lengths, arena, key))
+    contained_numbers(byte_set_reads::contains(marks, offsets, lengths, arena, key))
 }
 
 // Puts a key in.

@@ -1,7 +1,8 @@
 // The byte map's entries: the numbers of their answers, and the entry answer that a case number and a slot are.
 ghost use mathlib.Core.Path.{_≡_};
 ghost use Rattle.byte_entry.specs.Numbers.{enteredNumbers};
-ghost use Rattle.byte_handles.specs.Numbers.{heldNumbers, swappedNumbers, takenNumbers, standingNumbers};
+ghost use Rattle.byte_handles.specs.Numbers.{heldNumbers, swappedNumbers, takenNumbers};
+ghost use Rattle.byte_vacant.specs.Numbers.{standingNumbers};
 ghost use Rattle.byte_entry.specs.Calls.{handleOf};
 ghost use Rattle.numbers.specs.Handed.{Hands};
 use answers::Numbers;
@@ -11,10 +12,10 @@ use answers::refusal_numbers;
 use byte_entry::Entered;
 use byte_handles::Held;
 use byte_handles::Occupied;
-use byte_handles::Standing;
 use byte_handles::Swapped;
 use byte_handles::Taken;
-use byte_handles::Vacant;
+use byte_vacant::Standing;
+use byte_vacant::Vacant;
 
 // The numbers of entry.
 pub fn entered_numbers(a: Entered) -> Numbers

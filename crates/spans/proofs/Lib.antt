@@ -11,6 +11,7 @@ pub mod Eights
 pub mod Equal
 pub mod Marks
 pub mod Plans
+pub mod Sets
 pub mod Sights
 pub mod Sizes
 pub mod Surveys

@@ -1,5 +1,5 @@
 -- `byte_entry::entry` meets its contract: each way in which the plan ends is an answer.
-use Rattle.byte_map.proofs.Seeking.{place-inside}
+use Rattle.byte_map.proofs.Planning.{place-inside}
 use Rattle.byte_entry.proofs.Places.{entry-hit, entry-free, entry-refused}
 use borrow.Author.Needs.{needs}
 use Rattle.byte_entry.proofs.entry.Statement.{statement}

@@ -1,5 +1,5 @@
 -- `byte_handles::hold` meets its contract: sizes, then the key, then the slot.
-use Rattle.byte_map.proofs.Laws.{same-long}
+use Rattle.byte_reads.proofs.Laws.{same-long}
 use Rattle.byte_handles.proofs.Grips.{holding-unfit, holding-long, holding-grip}
 use borrow.Author.Needs.{needs}
 use Rattle.byte_handles.proofs.hold.Statement.{statement}

@@ -1,5 +1,5 @@
 -- `byte_handles::pull` meets its contract: sizes, then the key, then every slot, then the handle's.
-use Rattle.byte_map.proofs.Laws.{sized-fits, same-long}
+use Rattle.byte_reads.proofs.Laws.{sized-fits, same-long}
 use Rattle.byte_handles.proofs.Pulls.{pulling-unfit, pulling-long, pulling-bad, pulling-grip}
 use borrow.Author.Needs.{needs}
 use Rattle.byte_handles.proofs.pull.Statement.{statement}

@@ -1,7 +1,7 @@
 -- `byte_map::insert` meets its contract: the value changes in the key's slot, or the first free slot takes the key.
 use borrow.Author.Needs.{needs}
 use native.Mathlib.Omega.{arith}
-use Rattle.byte_map.proofs.Seeking.{place-inside, place-free}
+use Rattle.byte_map.proofs.Planning.{place-inside, place-free}
 use Rattle.byte_map.proofs.Laws.{insert-hit, insert-free, insert-refused}
 use Rattle.byte_map.proofs.insert.Statement.{statement}
 use Rattle.byte_map.proofs.insert.Tie as tie

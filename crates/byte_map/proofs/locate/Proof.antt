@@ -1,6 +1,6 @@
 -- `byte_map::locate` meets its contract: refusal 1 where the values do not fit, else the plan.
 use borrow.Author.Needs.{needs}
-use Rattle.byte_map.proofs.Seeking.{locate-long, locate-short}
+use Rattle.byte_map.proofs.Planning.{locate-long, locate-short}
 use Rattle.byte_map.proofs.locate.Statement.{statement}
 use Rattle.byte_map.proofs.locate.Tie as tie
 

@@ -1,6 +1,6 @@
 -- `byte_map::make` meets its contract: refusal 1, or every mark, word and arena byte 0.
 use borrow.Author.Needs.{needs}
-use Rattle.byte_map.proofs.Counting.{make-not}
+use Rattle.byte_map.proofs.Making.{make-not}
 use Rattle.byte_map.proofs.Laws.{make-done}
 use Rattle.byte_map.proofs.make.Statement.{statement}
 use Rattle.byte_map.proofs.make.Tie as tie

@@ -1,6 +1,6 @@
 -- `byte_map::place` meets its contract: refusal 1 where the values do not fit, else the plan.
 use borrow.Author.Needs.{needs}
-use Rattle.byte_map.proofs.Seeking.{place-long, place-short}
+use Rattle.byte_map.proofs.Planning.{place-long, place-short}
 use Rattle.byte_map.proofs.place.Statement.{statement}
 use Rattle.byte_map.proofs.place.Tie as tie
 

@@ -1,7 +1,7 @@
 -- `byte_map::remove` meets its contract: the found slot is freed, its words become 0, its gap is closed.
 use borrow.Author.Needs.{needs}
 use native.Mathlib.Omega.{arith}
-use Rattle.byte_map.proofs.Seeking.{locate-hit}
+use Rattle.byte_map.proofs.Planning.{locate-hit}
 use Rattle.byte_map.proofs.Laws.{remove-hit, remove-absent, remove-refused}
 use Rattle.byte_map.proofs.remove.Statement.{statement}
 use Rattle.byte_map.proofs.remove.Tie as tie

@@ -1,6 +1,6 @@
 -- `byte_union::plan` meets its contract: the sizes of both, then damage and room.
 use borrow.Author.Needs.{needs}
-use Rattle.byte_map.proofs.Laws.{sized-fits}
+use Rattle.byte_reads.proofs.Laws.{sized-fits}
 use Rattle.byte_union.proofs.Plans.{left-unfit, right-unfit, room-plan}
 use Rattle.byte_union.proofs.plan.Statement.{statement}
 use Rattle.byte_union.proofs.plan.Tie as tie

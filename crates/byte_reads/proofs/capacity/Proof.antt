@@ -1,0 +1,17 @@
+-- `byte_reads::capacity` meets its contract: refusal 1, or the number of slots.
+use borrow.Author.Needs.{needs}
+use Rattle.byte_reads.proofs.Counting.{capacity-done, capacity-not}
+use Rattle.byte_reads.proofs.capacity.Statement.{statement}
+use Rattle.byte_reads.proofs.capacity.Tie as tie
+
+map-fits-requires : tie.Need-map-fits-requires
+map-fits-requires c κs = search needs
+
+returns : tie.Need-returns
+returns c = capacity-done _ _ (c .before .map-fits .ensures) (c .if1 .taken)
+
+returns-2 : tie.Need-returns-2
+returns-2 c = capacity-not _ _ (c .before .map-fits .ensures) (c .if1 .left)
+
+pub capacity-spec : {M : Type 1} → statement M
+capacity-spec = tie.close (tie.spec map-fits-requires returns returns-2)

@@ -1,0 +1,2 @@
+-- The definitions of the reading calls of byte maps.
+pub mod Seeking

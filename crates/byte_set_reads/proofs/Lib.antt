@@ -1,0 +1,3 @@
+-- The laws of the reading calls of byte sets.
+pub mod Laws
+pub mod Settled

@@ -1,0 +1,52 @@
+-- `byte_set_reads::contains` meets its contract: what the probing found.
+use borrow.Author.Needs.{needs}
+use Rattle.answers.specs.Numbers.{containedNumbers}
+use Rattle.answers.specs.Said.{containedSaid}
+use Rattle.byte_set_reads.proofs.Laws.{contains-says}
+use Rattle.byte_set_reads.proofs.contains.Statement.{statement}
+use Rattle.byte_set_reads.proofs.contains.Tie as tie
+
+probe-requires : tie.Need-probe-requires
+probe-requires c κs = search needs
+
+enum-known-seen : tie.Need-enum-known-seen
+enum-known-seen c = search needs
+
+enum-known-seen-2 : tie.Need-enum-known-seen-2
+enum-known-seen-2 c = search needs
+
+enum-known-seen-3 : tie.Need-enum-known-seen-3
+enum-known-seen-3 c = search needs
+
+enum-known-seen-4 : tie.Need-enum-known-seen-4
+enum-known-seen-4 c = search needs
+
+returns : tie.Need-returns
+unfolding containedNumbers containedSaid
+returns c = contains-says _ _ (c .before .before .before .probe .ensures) (c .before .seen .given .1)
+
+returns-2 : tie.Need-returns-2
+unfolding containedNumbers containedSaid
+returns-2 c = contains-says _ _ (c .before .before .before .probe .ensures) (c .before .seen2 .given .1)
+
+returns-3 : tie.Need-returns-3
+unfolding containedNumbers containedSaid
+returns-3 c = contains-says _ _ (c .before .before .before .probe .ensures) (c .before .seen3 .given .1)
+
+returns-4 : tie.Need-returns-4
+unfolding containedNumbers containedSaid
+returns-4 c = contains-says _ _ (c .before .before .before .probe .ensures) (c .before .seen4 .given .1)
+
+pub contains-spec : {M : Type 1} → statement M
+contains-spec =
+    tie.close
+    (tie.spec
+    probe-requires
+    enum-known-seen
+    enum-known-seen-2
+    enum-known-seen-3
+    enum-known-seen-4
+    returns
+    returns-2
+    returns-3
+    returns-4)

@@ -1,0 +1,3 @@
+-- The definitions of the byte map's vacant handles.
+pub mod Numbers
+pub mod Planning
