@@ -53,3 +53,8 @@ copied-all to from s i e l b = rw (eq-eqb (length to) (length from) e) (below-al
 pub copied-not : (to from : List ℕ) → (length to ≡ length from → ⊥) → to ≡ copied to from
 unfolding copied
 copied-not to from h = rw (ne-eqb (length to) (length from) h)
+
+-- what is a copy onto a list of equal length is the other list
+pub copied-whole : (to from : List ℕ) {a : List ℕ} → length to ≡ length from → a ≡ copied to from → a ≡ from
+unfolding copied
+copied-whole to from e p = p ∙ (rw (eq-eqb (length to) (length from) e))

@@ -2,7 +2,7 @@
 use Prim.Native.Nat.{ℕ}
 use mathlib.Core.Bool.{Bool, true, false}
 use mathlib.Core.List.{List}
-use mathlib.Core.Path.{_≡_, _∙_}
+use mathlib.Core.Path.{_≡_}
 use native.Mathlib.Omega.{arith}
 use borrow.Author.Tests.{eq-eqb, ne-eqb}
 use lib.ListN.{length}
@@ -13,6 +13,7 @@ use Rattle.answers.specs.declared.Outcome.the-variants as outcome
 use Rattle.answers.specs.Numbers.{outcomeNumbers}
 use Rattle.answers.specs.Said.{doneSaid}
 use Rattle.arrays.specs.Whole.{copied}
+use Rattle.arrays.proofs.Below.{copied-whole}
 use Rattle.kinds.specs.Columns.{values}
 use Rattle.kinds.specs.Told.{told}
 use Rattle.kinds.specs.Calls.{copyOf}
@@ -45,11 +46,6 @@ module _ {K W : Type 0} (M : Store K W) (m n : M .State) {b : Bool} (p : b ≡ s
       copied-done : M .size m ≡ M .size n → M .bytes m ≡ M .bytes n → {x : M .State} → x ≡ n → told (outcomeNumbers outcome.Done) x ≡ copyOf M m n
       unfolding copyOf copy after-copy acted need doneSaid outcomeNumbers
       copied-done e f g = rw (sized-as M m p q, sized-as M n r s, eq-eqb (M .size m) (M .size n) e, eq-eqb (M .bytes m) (M .bytes n) f, g)
-
--- an array of equal length is copied whole
-copied-whole : (to from : List ℕ) {a : List ℕ} → length to ≡ length from → a ≡ copied to from → a ≡ from
-unfolding copied
-copied-whole to from e p = p ∙ (rw (eq-eqb (length to) (length from) e))
 
 -- copy onto the first map from the second
 pub copy-done : (m n : Strings values) {b d : Bool} → b ≡ sizedOf maps m → b ≡ true → d ≡ sizedOf maps n → d ≡ true → length (m .spans .marks) ≡ length (n .spans .marks) → length (m .spans .arena) ≡ length (n .spans .arena) → {x y z v w : List ℕ} → x ≡ copied (m .spans .marks) (n .spans .marks) → y ≡ copied (m .spans .offsets) (n .spans .offsets) → z ≡ copied (m .spans .lengths) (n .spans .lengths) → v ≡ copied (m .words) (n .words) → w ≡ copied (m .spans .arena) (n .spans .arena) → told (outcomeNumbers outcome.Done) (mapMemory x y z v w) ≡ copyOf maps m n

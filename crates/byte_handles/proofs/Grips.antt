@@ -8,7 +8,7 @@ use borrow.Author.Tests.{lt-ltb, le-ltb, eqb-true}
 use lib.Dec.{eqb}
 use lib.ListN.{length, getD, set}
 use Rattle.model.specs.Calls.{Or, no, ok, need, pass, gripOn, grip, occupied-get, after-set, acted}
-use Rattle.model.proofs.Cases.{by-bool, by-lt}
+use Rattle.model.proofs.Cases.{by-bool, by-lt, clash}
 use Rattle.answers.specs.declared.Refusal.{Refusal}
 use Rattle.answers.specs.declared.Refusal.the-variants.{Sizes, LongKey, BadHandle}
 use Rattle.answers.specs.Refusals.{numberOf}
@@ -35,10 +35,6 @@ use Rattle.byte_handles.specs.declared.Held.the-variants as held
 use Rattle.byte_handles.specs.declared.Swapped.the-variants as swapped
 use Rattle.byte_handles.specs.Numbers.{heldNumbers, swappedNumbers}
 use Rattle.byte_handles.specs.Planning.{heldBy, gripping, holding}
-
--- two answers that cannot be equal
-clash : {A : Type 0} → _≡_ {A = ℕ} 0 1 → A
-clash e = absurd (omega arith)
 
 -- What a handle's test says in the theory's words.
 abbrev pub gripOf : Held → Or ℕ

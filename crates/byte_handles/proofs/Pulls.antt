@@ -8,7 +8,7 @@ use borrow.Author.Tests.{eqb-true}
 use lib.Dec.{eqb}
 use lib.ListN.{length, getD, set}
 use Rattle.model.specs.Calls.{Or, no, ok, need, pass, occupied-remove, after-drop, acted}
-use Rattle.model.proofs.Cases.{by-bool, by-lt}
+use Rattle.model.proofs.Cases.{by-bool, by-lt, clash}
 use Rattle.answers.specs.declared.Refusal.{Refusal}
 use Rattle.answers.specs.declared.Refusal.the-variants.{Sizes, LongKey, Damaged}
 use Rattle.answers.specs.Refusals.{numberOf}
@@ -45,10 +45,6 @@ use Rattle.byte_handles.specs.declared.Taken.the-variants as taken
 use Rattle.byte_handles.specs.Numbers.{takenNumbers}
 use Rattle.byte_handles.specs.Planning.{heldBy, gripping, pulledBy, pulling}
 use Rattle.byte_handles.proofs.Grips.{gripOf, grip-gripping}
-
--- two answers that cannot be equal
-clash : {A : Type 0} → _≡_ {A = ℕ} 0 1 → A
-clash e = absurd (omega arith)
 
 -- What a removal's plan says in the theory's words.
 abbrev pullOf : Pulled → Or ℕ

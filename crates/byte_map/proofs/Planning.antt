@@ -8,7 +8,7 @@ use lib.Dec.{eqb}
 use lib.ListN.{length}
 use Rattle.model.specs.Calls.{no, pass, need, seenBy, spotBy, entry, remove}
 use Rattle.model.specs.Store.{path}
-use Rattle.model.proofs.Cases.{by-bool}
+use Rattle.model.proofs.Cases.{by-bool, clash}
 use Rattle.answers.specs.declared.Refusal.the-variants.{Sizes}
 use Rattle.kinds.specs.declared.Probed.{Probed}
 use Rattle.kinds.specs.declared.Probed.the-variants as probed
@@ -24,7 +24,7 @@ use Rattle.spans.specs.Planning.{placedBy, roomFor, placing, locating}
 use Rattle.spans.proofs.Bridge.{spotOf, lostOf, short-refused, path-inside, remove-locating, entry-placing}
 use Rattle.arena.specs.Needs.{Fillable, Freeable}
 use Rattle.arena.proofs.Plans.{place-fillable, locate-freeable}
-use Rattle.byte_reads.proofs.Seeking.{clash, long-is, short-is, by-long, long-only}
+use Rattle.byte_reads.proofs.Seeking.{long-is, short-is, by-long, long-only}
 use Rattle.byte_map.specs.Planning.{placingMap, locatingMap}
 
 -- a plan that found the key has its slot from the path

@@ -9,7 +9,7 @@ use lib.Dec.{eqb}
 use lib.ListN.{length}
 use Rattle.model.specs.Calls.{no, pass, seenBy, get}
 use Rattle.model.specs.Store.{path}
-use Rattle.model.proofs.Cases.{by-bool}
+use Rattle.model.proofs.Cases.{by-bool, clash}
 use Rattle.answers.specs.declared.Refusal.the-variants.{Sizes}
 use Rattle.kinds.specs.declared.Probed.{Probed}
 use Rattle.kinds.specs.declared.Probed.the-variants as probed
@@ -20,10 +20,6 @@ use Rattle.spans.specs.Kinds.{maps}
 use Rattle.spans.specs.Probing.{probing}
 use Rattle.spans.proofs.Bridge.{short-refused, probing-inside, get-probing}
 use Rattle.byte_reads.specs.Seeking.{sizedOf, whereLong, seekingMap}
-
--- the clash of two constructors
-pub clash : {A : Type 0} → _≡_ {A = ℕ} 0 1 → A
-clash e = absurd (omega arith)
 
 module _ (m : Strings values) where
   -- the sizes, from their tests

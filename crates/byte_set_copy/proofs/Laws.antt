@@ -11,17 +11,13 @@ use Rattle.answers.specs.declared.Outcome.the-variants as outcome
 use Rattle.answers.specs.Numbers.{outcomeNumbers}
 use Rattle.answers.specs.Said.{doneSaid}
 use Rattle.arrays.specs.Whole.{copied}
+use Rattle.arrays.proofs.Below.{copied-whole}
 use Rattle.kinds.specs.Calls.{copyOf}
 use Rattle.kinds.specs.Told.{told}
 use Rattle.spans.specs.Memory.{Spans, spansOf, fitting}
 use Rattle.spans.specs.Kinds.{sets}
 use Rattle.spans.proofs.Sets.{setOf, fit, unfit}
 use Rattle.spans.proofs.Sizes.{fitting-says}
-
--- an array of equal length is copied whole
-copied-whole : (to from : List ℕ) {a : List ℕ} → length to ≡ length from → a ≡ copied to from → a ≡ from
-unfolding copied
-copied-whole to from e p = p ∙ (rw (eq-eqb (length to) (length from) e))
 
 -- copy onto the first table from the other
 module _ (s t : Spans) {b : Bool} (p : b ≡ fitting s) where

@@ -8,7 +8,7 @@ use lib.Dec.{eqb, ltb}
 use lib.ListN.{length, getD, set}
 use Rattle.model.specs.Path.{Find, hit, miss, hurt, at, find}
 use Rattle.model.specs.Calls.{Or, no, ok, need, pass, give, acted, goodFor, vacancy, vacant-insert, after-fill}
-use Rattle.model.proofs.Cases.{by-bool, by-eq}
+use Rattle.model.proofs.Cases.{by-bool, by-eq, clash}
 use Rattle.digest.specs.Home.{homeOf}
 use Rattle.answers.specs.declared.Refusal.{Refusal}
 use Rattle.answers.specs.declared.Refusal.the-variants.{Sizes, BadHandle}
@@ -30,7 +30,7 @@ use Rattle.spans.specs.Planning.{placedBy, roomFor, placing}
 use Rattle.spans.specs.Probing.{pathFrom, pathOf}
 use Rattle.spans.proofs.Bridge.{spot-is, short-refused, kept-no}
 use Rattle.arena.specs.Needs.{Fillable}
-use Rattle.byte_reads.proofs.Seeking.{clash, by-long}
+use Rattle.byte_reads.proofs.Seeking.{by-long}
 use Rattle.byte_map.specs.Planning.{placingMap}
 use Rattle.byte_map.proofs.Planning.{place-free}
 use Rattle.byte_vacant.specs.declared.Fresh.{Fresh}

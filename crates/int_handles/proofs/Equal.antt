@@ -1,7 +1,6 @@
 -- Equal numbers are equal answers, for each answer that is declared here.
-use mathlib.Core.Path.{_≡_, ap}
-use native.Mathlib.Omega.{arith}
-use Rattle.answers.proofs.Told.{numberOf-injective}
+use mathlib.Core.Path.{_≡_, refl, ap}
+use Rattle.answers.proofs.Told.{numberOf-injective, other-case}
 use Rattle.int_handles.specs.declared.Held.{Held}
 use Rattle.int_handles.specs.declared.Held.the-variants as held
 use Rattle.int_handles.specs.declared.Swapped.{Swapped}
@@ -17,34 +16,34 @@ use Rattle.int_handles.specs.Numbers.{heldNumbers, swappedNumbers, taken
 pub heldNumbers-injective : (a b : Held) → heldNumbers a ≡ heldNumbers b → a ≡ b
 unfolding heldNumbers
 heldNumbers-injective (held.Value v h) (held.Value v′ h′) q = let z : h ≡ h′ = ap (λ s. record { slot = s }) (ap (λ n. n .slot) q) in cc (ap (λ n. n .value) q)
-heldNumbers-injective (held.Value v h) (held.Refused r′) q = let z : ⊥ = omega (arith, ap (λ n. n .case) q) in absurd z
-heldNumbers-injective (held.Refused r) (held.Value v′ h′) q = let z : ⊥ = omega (arith, ap (λ n. n .case) q) in absurd z
+heldNumbers-injective (held.Value v h) (held.Refused r′) q = other-case q refl
+heldNumbers-injective (held.Refused r) (held.Value v′ h′) q = other-case q refl
 heldNumbers-injective (held.Refused r) (held.Refused r′) q = ap held.Refused (numberOf-injective r r′ (ap (λ n. n .refusal) q))
 
 pub swappedNumbers-injective : (a b : Swapped) → swappedNumbers a ≡ swappedNumbers b → a ≡ b
 unfolding swappedNumbers
 swappedNumbers-injective (swapped.Was v h) (swapped.Was v′ h′) q = let z : h ≡ h′ = ap (λ s. record { slot = s }) (ap (λ n. n .slot) q) in cc (ap (λ n. n .value) q)
-swappedNumbers-injective (swapped.Was v h) (swapped.Refused r′) q = let z : ⊥ = omega (arith, ap (λ n. n .case) q) in absurd z
-swappedNumbers-injective (swapped.Refused r) (swapped.Was v′ h′) q = let z : ⊥ = omega (arith, ap (λ n. n .case) q) in absurd z
+swappedNumbers-injective (swapped.Was v h) (swapped.Refused r′) q = other-case q refl
+swappedNumbers-injective (swapped.Refused r) (swapped.Was v′ h′) q = other-case q refl
 swappedNumbers-injective (swapped.Refused r) (swapped.Refused r′) q = ap swapped.Refused (numberOf-injective r r′ (ap (λ n. n .refusal) q))
 
 pub takenNumbers-injective : (a b : Taken) → takenNumbers a ≡ takenNumbers b → a ≡ b
 unfolding takenNumbers
 takenNumbers-injective (taken.Removed v) (taken.Removed v′) q = cc (ap (λ n. n .value) q)
-takenNumbers-injective (taken.Removed v) (taken.Refused r′) q = let z : ⊥ = omega (arith, ap (λ n. n .case) q) in absurd z
-takenNumbers-injective (taken.Refused r) (taken.Removed v′) q = let z : ⊥ = omega (arith, ap (λ n. n .case) q) in absurd z
+takenNumbers-injective (taken.Removed v) (taken.Refused r′) q = other-case q refl
+takenNumbers-injective (taken.Refused r) (taken.Removed v′) q = other-case q refl
 takenNumbers-injective (taken.Refused r) (taken.Refused r′) q = ap taken.Refused (numberOf-injective r r′ (ap (λ n. n .refusal) q))
 
 pub takenEntryNumbers-injective : (a b : TakenEntry) → takenEntryNumbers a ≡ takenEntryNumbers b → a ≡ b
 unfolding takenEntryNumbers
 takenEntryNumbers-injective (taken-entry.Removed k v) (taken-entry.Removed k′ v′) q = cc (ap (λ n. n .key) q, ap (λ n. n .value) q)
-takenEntryNumbers-injective (taken-entry.Removed k v) (taken-entry.Refused r′) q = let z : ⊥ = omega (arith, ap (λ n. n .case) q) in absurd z
-takenEntryNumbers-injective (taken-entry.Refused r) (taken-entry.Removed k′ v′) q = let z : ⊥ = omega (arith, ap (λ n. n .case) q) in absurd z
+takenEntryNumbers-injective (taken-entry.Removed k v) (taken-entry.Refused r′) q = other-case q refl
+takenEntryNumbers-injective (taken-entry.Refused r) (taken-entry.Removed k′ v′) q = other-case q refl
 takenEntryNumbers-injective (taken-entry.Refused r) (taken-entry.Refused r′) q = ap taken-entry.Refused (numberOf-injective r r′ (ap (λ n. n .refusal) q))
 
 pub standingNumbers-injective : (a b : Standing) → standingNumbers a ≡ standingNumbers b → a ≡ b
 unfolding standingNumbers
 standingNumbers-injective (standing.Now h v) (standing.Now h′ v′) q = let z : h ≡ h′ = ap (λ s. record { slot = s }) (ap (λ n. n .slot) q) in cc (ap (λ n. n .value) q)
-standingNumbers-injective (standing.Now h v) (standing.Refused r′) q = let z : ⊥ = omega (arith, ap (λ n. n .case) q) in absurd z
-standingNumbers-injective (standing.Refused r) (standing.Now h′ v′) q = let z : ⊥ = omega (arith, ap (λ n. n .case) q) in absurd z
+standingNumbers-injective (standing.Now h v) (standing.Refused r′) q = other-case q refl
+standingNumbers-injective (standing.Refused r) (standing.Now h′ v′) q = other-case q refl
 standingNumbers-injective (standing.Refused r) (standing.Refused r′) q = ap standing.Refused (numberOf-injective r r′ (ap (λ n. n .refusal) q))

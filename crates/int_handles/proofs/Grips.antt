@@ -8,6 +8,7 @@ use borrow.Author.Tests.{lt-ltb, le-ltb}
 use lib.ListN.{length, getD, set}
 use Rattle.model.specs.Calls.{Or, no, ok, need, pass, gripOn, grip, occupied-get, after-set, occupied-remove, after-drop, acted}
 use Rattle.model.proofs.Cases.{by-bool, by-lt, clash}
+use Rattle.answers.proofs.Told.{other-case}
 use Rattle.answers.specs.declared.Refusal.{Refusal}
 use Rattle.answers.specs.declared.Refusal.the-variants.{Sizes, BadHandle}
 use Rattle.answers.specs.declared.Numbers.{Numbers}
@@ -15,7 +16,7 @@ use Rattle.answers.specs.Refusals.{numberOf}
 use Rattle.kinds.specs.Marks.{cell}
 use Rattle.ints.specs.Memory.{memory}
 use Rattle.ints.specs.Seeking.{fittingMap}
-use Rattle.ints.proofs.Seeking.{same-long}
+use Rattle.ints.proofs.MapSizes.{same-long}
 use Rattle.int_handles.specs.declared.Occupied.{Occupied}
 use Rattle.int_handles.specs.declared.Held.{Held}
 use Rattle.int_handles.specs.declared.Held.the-variants as held
@@ -41,23 +42,23 @@ idle (suc (suc (suc n))) a v k l h = let z : ⊥ = omega arith in absurd z
 -- what the answer of a get says of the theory's
 said-ok : (s : ℕ) {v : ℕ} {h : Occupied} {r : Held} (x : Or ℕ) → heldNumbers r ≡ heldSaid s x → r ≡ held.Value v h → x ≡ ok v
 unfolding heldNumbers heldSaid
-said-ok s (no n) p q = let z : ⊥ = omega (arith, ap (λ n. n .case) (rw q at p)) in absurd z
+said-ok s (no n) p q = other-case (rw q at p) refl
 said-ok s (ok w) p q = ap ok (sym (ap (λ n. n .value) (rw q at p)))
 
 said-no : (s : ℕ) {e : Refusal} {r : Held} (x : Or ℕ) → heldNumbers r ≡ heldSaid s x → r ≡ held.Refused e → x ≡ no (numberOf e)
 unfolding heldNumbers heldSaid
 said-no s (no n) p q = ap no (sym (ap (λ n. n .refusal) (rw q at p)))
-said-no s (ok w) p q = let z : ⊥ = omega (arith, ap (λ n. n .case) (rw q at p)) in absurd z
+said-no s (ok w) p q = other-case (rw q at p) refl
 
 taken-ok : {v : ℕ} {r : Taken} (x : Or ℕ) → takenNumbers r ≡ takenSaid x → r ≡ taken.Removed v → x ≡ ok v
 unfolding takenNumbers takenSaid
-taken-ok (no n) p q = let z : ⊥ = omega (arith, ap (λ n. n .case) (rw q at p)) in absurd z
+taken-ok (no n) p q = other-case (rw q at p) refl
 taken-ok (ok w) p q = ap ok (sym (ap (λ n. n .value) (rw q at p)))
 
 taken-no : {e : Refusal} {r : Taken} (x : Or ℕ) → takenNumbers r ≡ takenSaid x → r ≡ taken.Refused e → x ≡ no (numberOf e)
 unfolding takenNumbers takenSaid
 taken-no (no n) p q = ap no (sym (ap (λ n. n .refusal) (rw q at p)))
-taken-no (ok w) p q = let z : ⊥ = omega (arith, ap (λ n. n .case) (rw q at p)) in absurd z
+taken-no (ok w) p q = other-case (rw q at p) refl
 
 module _ (marks keys vs : List ℕ) where
   module _ (s k : ℕ) where

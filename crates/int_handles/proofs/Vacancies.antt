@@ -12,6 +12,7 @@ use Rattle.model.specs.Store.{path, slotAt, used}
 use Rattle.model.specs.Calls.{Or, no, ok, need, pass, give, acted, spotBy, entry, goodFor, vacancy, vacant-insert, after-fill}
 use Rattle.model.proofs.Cases.{by-bool, by-eq, clash}
 use Rattle.digest.specs.Home.{homeOfWord}
+use Rattle.answers.proofs.Told.{other-case}
 use Rattle.answers.specs.declared.Refusal.{Refusal}
 use Rattle.answers.specs.declared.Refusal.the-variants.{BadHandle}
 use Rattle.answers.specs.declared.Outcome.{Outcome}
@@ -95,13 +96,13 @@ module _ (marks keys vs : List ℕ) (k : ℕ) {r : Probed} (p : r ≡ seekingMap
 -- what the answer says of the theory's
 done-ok : {a : Outcome} (x : Or (Unit {0})) → outcomeNumbers a ≡ doneSaid x → a ≡ outcome.Done → x ≡ ok tt
 unfolding outcomeNumbers doneSaid
-done-ok (no n) p q = let z : ⊥ = omega (arith, ap (λ n. n .case) (rw q at p)) in absurd z
+done-ok (no n) p q = other-case (rw q at p) refl
 done-ok (ok u) p q = refl
 
 done-no : {a : Outcome} {e : Refusal} (x : Or (Unit {0})) → outcomeNumbers a ≡ doneSaid x → a ≡ outcome.Refused e → x ≡ no (numberOf e)
 unfolding outcomeNumbers doneSaid
 done-no (no n) p q = ap no (sym (ap (λ n. n .refusal) (rw q at p)))
-done-no (ok u) p q = let z : ⊥ = omega (arith, ap (λ n. n .case) (rw q at p)) in absurd z
+done-no (ok u) p q = other-case (rw q at p) refl
 
 -- a good handle's slot is where the probing would go
 good-free : (s : ℕ) (r : Probed) → goodOf s r ≡ ok tt → (e : ℕ) × (r ≡ probed.Free s e)

@@ -2,7 +2,7 @@
 use Prim.Native.Nat.{ℕ}
 use mathlib.Core.Bool.{Bool, true, false}
 use mathlib.Core.List.{List}
-use mathlib.Core.Path.{_≡_, sym, _∙_}
+use mathlib.Core.Path.{_≡_}
 use lib.ListN.{length, getD, set, replicate}
 use Rattle.model.specs.Calls.{need, entry, storedBy, after-insert, remove, removedBy, after-remove, acted, capacity, after-make}
 use Rattle.answers.specs.declared.Refusal.{Refusal}
@@ -20,27 +20,20 @@ use Rattle.ints.specs.Seeking.{fittingMap, seekingMap}
 use Rattle.kinds.proofs.Bridge.{seenOf, spotOf}
 use Rattle.ints.proofs.Seeking.{remove-seeking, entry-seeking}
 use Rattle.ints.specs.Maps.{maps}
+use Rattle.ints.proofs.MapSizes.{fit, unfit}
 use Rattle.kinds.specs.Told.{told}
 use Rattle.int_map.specs.Calls.{makeOf, insertOf, removeOf}
 
 module _ (marks keys vs : List ℕ) where
   module _ {b : Bool} (p : b ≡ fittingMap marks keys vs) where
-    pub fit : b ≡ true → maps .sized (memory marks keys vs) ≡ true
-    unfolding fittingMap
-    fit q = sym p ∙ q
-
-    pub unfit : b ≡ false → maps .sized (memory marks keys vs) ≡ false
-    unfolding fittingMap
-    unfit q = sym p ∙ q
-
     -- make and clear
     pub make-done : b ≡ true → {a d e : List ℕ} → a ≡ replicate (length marks) 0 → d ≡ replicate (length keys) 0 → e ≡ replicate (length vs) 0 → told (outcomeNumbers outcome.Done) (memory a d e) ≡ makeOf (memory marks keys vs)
     unfolding makeOf capacity after-make acted need doneSaid outcomeNumbers
-    make-done q x y z = rw (fit q, x, y, z)
+    make-done q x y z = rw (fit marks keys vs p q, x, y, z)
 
     pub make-not : b ≡ false → told (outcomeNumbers (outcome.Refused Sizes)) (memory marks keys vs) ≡ makeOf (memory marks keys vs)
     unfolding makeOf capacity after-make acted need doneSaid outcomeNumbers
-    make-not q = rw (unfit q)
+    make-not q = rw (unfit marks keys vs p q)
 
   module _ (k : ℕ) {r : Probed} (p : r ≡ seekingMap marks keys vs k) where
     remove-is : remove maps (memory marks keys vs) k ≡ seenOf (λ i. getD vs i 0) r

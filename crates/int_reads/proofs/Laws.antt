@@ -25,7 +25,7 @@ use Rattle.ints.specs.Scanning.{scanning}
 use Rattle.ints.specs.Seeking.{fittingMap, seekingMap}
 use Rattle.ints.proofs.Bridge.{scan-live, scan-bad}
 use Rattle.ints.proofs.Seeking.{get-seeking}
-use Rattle.int_map.proofs.Laws.{fit, unfit}
+use Rattle.ints.proofs.MapSizes.{fit, unfit}
 use Rattle.int_reads.specs.Calls.{capacityOf, lenOf, getOf, containsKeyOf}
 
 module _ (marks keys vs : List ℕ) where

@@ -2,7 +2,7 @@
 use Prim.Native.Nat.{ℕ, _<_}
 use mathlib.Core.Bool.{Bool, true, false}
 use mathlib.Core.List.{List}
-use mathlib.Core.Path.{_≡_, refl, sym, _∙_}
+use mathlib.Core.Path.{_≡_, refl}
 use native.Mathlib.Omega.{arith}
 use lib.ListN.{length, replicate}
 use Rattle.model.specs.Calls.{need, storedBy, after-insert, removedBy, after-remove, acted, capacity, after-make}
@@ -15,33 +15,23 @@ use Rattle.kinds.specs.declared.Probed.the-variants.{Hit, Free}
 use Rattle.kinds.specs.Columns.{nothing}
 use Rattle.ints.specs.Memory.{fitting}
 use Rattle.ints.specs.Probing.{probing}
-use Rattle.ints.proofs.Sizes.{fitting-says}
 use Rattle.kinds.proofs.Bridge.{seenOf, spotOf}
-use Rattle.ints.proofs.Bridge.{sized-is, remove-probing, entry-probing, hit-slot, free-slot}
-use Rattle.int_set.specs.Memory.{sets, memory}
+use Rattle.ints.proofs.Bridge.{remove-probing, entry-probing, hit-slot, free-slot}
+use Rattle.ints.specs.Sets.{sets, memory}
+use Rattle.ints.proofs.SetSizes.{fit, unfit}
 use Rattle.kinds.specs.Told.{told}
 use Rattle.int_set.specs.Calls.{makeOf, insertOf, removeOf}
 
 module _ (marks keys : List ℕ) where
   module _ {b : Bool} (p : b ≡ fitting marks keys) where
-    pub fit : b ≡ true → sets .sized (memory marks keys) ≡ true
-    fit q = rw (sized-is nothing (memory marks keys), ← p, q)
-
-    pub unfit : b ≡ false → sets .sized (memory marks keys) ≡ false
-    unfit q = rw (sized-is nothing (memory marks keys), ← p, q)
-
-    -- there are as many keys as marks
-    pub same-long : b ≡ true → length keys ≡ length marks
-    same-long q = fitting-says marks keys (sym p ∙ q) .1
-
     -- make and clear
     pub make-done : b ≡ true → {a d : List ℕ} → a ≡ replicate (length marks) 0 → d ≡ replicate (length keys) 0 → told (outcomeNumbers outcome.Done) (memory a d) ≡ makeOf (memory marks keys)
     unfolding makeOf capacity after-make acted need doneSaid outcomeNumbers
-    make-done q x y = rw (fit q, x, y)
+    make-done q x y = rw (fit marks keys p q, x, y)
 
     pub make-not : b ≡ false → told (outcomeNumbers (outcome.Refused Sizes)) (memory marks keys) ≡ makeOf (memory marks keys)
     unfolding makeOf capacity after-make acted need doneSaid outcomeNumbers
-    make-not q = rw (unfit q)
+    make-not q = rw (unfit marks keys p q)
 
   -- the path calls, by what the probing found
   module _ (k : ℕ) {r : Probed} (p : r ≡ probing marks keys k) where

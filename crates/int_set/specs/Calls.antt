@@ -4,7 +4,7 @@ use Rattle.model.specs.Calls.{entry, after-insert, remove, after-remove, capaci
 use Rattle.answers.specs.Said.{doneSaid, addedSaid, droppedSaid}
 use Rattle.kinds.specs.Columns.{nothing}
 use Rattle.ints.specs.Memory.{Cells}
-use Rattle.int_set.specs.Memory.{sets}
+use Rattle.ints.specs.Sets.{sets}
 use Rattle.kinds.specs.Told.{Told, told}
 
 -- make and clear: every mark and word becomes 0.

@@ -1,3 +1,2 @@
 -- The definitions of integer sets.
-pub mod Memory
 pub mod Calls

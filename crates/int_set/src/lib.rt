@@ -1,7 +1,7 @@
 // The integer set: u64 keys in lent slot arrays, and the calls that store. Each contract is one equation with a definition of specs/Calls.antt.
 ghost use mathlib.Core.Path.{_≡_};
 ghost use Rattle.answers.specs.Numbers.{outcomeNumbers, addedNumbers, droppedNumbers};
-ghost use Rattle.int_set.specs.Memory.{memory};
+ghost use Rattle.ints.specs.Sets.{memory};
 ghost use Rattle.kinds.specs.Told.{told};
 ghost use Rattle.int_set.specs.Calls.{makeOf, insertOf, removeOf};
 use answers::Added;

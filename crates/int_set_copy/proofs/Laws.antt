@@ -2,7 +2,7 @@
 use Prim.Native.Nat.{ℕ}
 use mathlib.Core.Bool.{Bool, true, false}
 use mathlib.Core.List.{List}
-use mathlib.Core.Path.{_≡_, _∙_}
+use mathlib.Core.Path.{_≡_}
 use native.Mathlib.Omega.{arith}
 use borrow.Author.Tests.{eq-eqb, ne-eqb}
 use lib.ListN.{length}
@@ -12,16 +12,12 @@ use Rattle.answers.specs.declared.Outcome.the-variants as outcome
 use Rattle.answers.specs.Numbers.{outcomeNumbers}
 use Rattle.answers.specs.Said.{doneSaid}
 use Rattle.arrays.specs.Whole.{copied}
+use Rattle.arrays.proofs.Below.{copied-whole}
 use Rattle.kinds.specs.Told.{told}
 use Rattle.ints.specs.Memory.{fitting}
-use Rattle.int_set.specs.Memory.{memory}
-use Rattle.int_set.proofs.Laws.{fit, unfit, same-long}
+use Rattle.ints.specs.Sets.{memory}
+use Rattle.ints.proofs.SetSizes.{fit, unfit, same-long}
 use Rattle.int_set_copy.specs.Calls.{copyOf}
-
--- an array of equal length is copied whole
-copied-whole : (to from : List ℕ) {a : List ℕ} → length to ≡ length from → a ≡ copied to from → a ≡ from
-unfolding copied
-copied-whole to from e p = p ∙ (rw (eq-eqb (length to) (length from) e))
 
 -- copy onto the first two arrays from the others
 module _ (marks keys ms ks : List ℕ) {b : Bool} (p : b ≡ fitting marks keys) where

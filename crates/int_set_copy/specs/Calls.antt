@@ -4,7 +4,7 @@ use Rattle.answers.specs.Said.{doneSaid}
 use Rattle.kinds.specs.Columns.{nothing}
 use Rattle.kinds.specs.Told.{Told, told}
 use Rattle.ints.specs.Memory.{Cells}
-use Rattle.int_set.specs.Memory.{sets}
+use Rattle.ints.specs.Sets.{sets}
 
 -- copy: every slot becomes that of the other table.
 unfoldable pub copyOf : Cells nothing → Cells nothing → Told (Cells nothing)

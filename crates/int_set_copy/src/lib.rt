@@ -2,7 +2,7 @@
 ghost use mathlib.Core.Path.{_≡_};
 ghost use Rattle.answers.specs.Numbers.{outcomeNumbers};
 ghost use Rattle.kinds.specs.Told.{told};
-ghost use Rattle.int_set.specs.Memory.{memory};
+ghost use Rattle.ints.specs.Sets.{memory};
 ghost use Rattle.int_set_copy.specs.Calls.{copyOf};
 use answers::Outcome;
 use answers::Refusal;

@@ -19,8 +19,8 @@ use Rattle.ints.specs.Memory.{fitting}
 use Rattle.ints.specs.Probing.{probing}
 use Rattle.ints.specs.Scanning.{scanning}
 use Rattle.ints.proofs.Bridge.{get-probing, scan-live, scan-bad}
-use Rattle.int_set.specs.Memory.{memory}
-use Rattle.int_set.proofs.Laws.{fit, unfit}
+use Rattle.ints.specs.Sets.{memory}
+use Rattle.ints.proofs.SetSizes.{fit, unfit}
 use Rattle.int_set_reads.specs.Calls.{capacityOf, lenOf, getOf, containsOf}
 
 module _ (marks keys : List ℕ) where

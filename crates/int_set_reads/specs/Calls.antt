@@ -5,7 +5,7 @@ use Rattle.answers.specs.declared.Numbers.{Numbers}
 use Rattle.answers.specs.Said.{countSaid, emptySaid, roomSaid, memberSaid, containedSaid}
 use Rattle.kinds.specs.Columns.{nothing}
 use Rattle.ints.specs.Memory.{Cells}
-use Rattle.int_set.specs.Memory.{sets}
+use Rattle.ints.specs.Sets.{sets}
 
 -- capacity: the number of slots.
 unfoldable pub capacityOf : Cells nothing → Numbers

@@ -1,7 +1,7 @@
 // The calls of an integer set that only read. Each contract is one equation with a definition of specs/Calls.antt.
 ghost use mathlib.Core.Path.{_≡_};
 ghost use Rattle.answers.specs.Numbers.{countedNumbers, emptinessNumbers, reservedNumbers, memberNumbers, containedNumbers};
-ghost use Rattle.int_set.specs.Memory.{memory};
+ghost use Rattle.ints.specs.Sets.{memory};
 ghost use Rattle.int_set_reads.specs.Calls.{capacityOf, lenOf, isEmptyOf, reserveOf, getOf, containsOf};
 use answers::Contained;
 use answers::Counted;

@@ -19,11 +19,11 @@ use Rattle.ints.specs.Scanning.{nexting}
 use Rattle.ints.proofs.Bridge.{paced-by}
 use Rattle.int_set_walk.specs.declared.Paced.the-variants.{Member, Nothing, Done}
 use Rattle.int_set_walk.specs.declared.Stride.{Stride}
-use Rattle.int_set.specs.Memory.{memory}
+use Rattle.ints.specs.Sets.{memory}
 use Rattle.answers.specs.Said.{keyHanded, stepSaid}
 use Rattle.int_set_walk.specs.Numbers.{pacedNumbers, stepNumbers}
 use Rattle.int_set_walk.specs.Calls.{paceOf, stepOf}
-use Rattle.int_set.proofs.Laws.{fit, unfit, same-long}
+use Rattle.ints.proofs.SetSizes.{fit, unfit, same-long}
 
 module _ (marks keys : List ℕ) (at : ℕ) where
   -- the slots of a step

@@ -6,7 +6,7 @@ use Rattle.answers.specs.declared.Numbers.{Numbers}
 use Rattle.answers.specs.Said.{keyHanded, stepSaid}
 use Rattle.kinds.specs.Columns.{nothing}
 use Rattle.ints.specs.Memory.{Cells}
-use Rattle.int_set.specs.Memory.{sets}
+use Rattle.ints.specs.Sets.{sets}
 
 -- The slots of a step from `at`, so many.
 unfoldable pub paceOf : Cells nothing → ℕ → ℕ → Numbers

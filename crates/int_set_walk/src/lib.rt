@@ -7,7 +7,7 @@ ghost use Rattle.answers.specs.Refusals.{numberOf};
 ghost use Rattle.answers.specs.Said.{keyHanded, stepSaid};
 ghost use Rattle.kinds.specs.Told.{told};
 ghost use Rattle.lent.specs.Moved.{movedOn};
-ghost use Rattle.int_set.specs.Memory.{memory};
+ghost use Rattle.ints.specs.Sets.{memory};
 ghost use Rattle.int_set_walk.specs.Calls.{paceOf, stepOf};
 ghost use Rattle.int_set_walk.specs.Numbers.{stepNumbers};
 use answers::Refusal;

@@ -10,6 +10,7 @@ use Rattle.model.specs.Slots.{Slot, never, freed, bad, live, Table, weigh, tota
 use Rattle.model.specs.Store.{used}
 use Rattle.model.specs.Calls.{Or, no, ok, need, lacking, needs, ruined, union, acted, after-union}
 use Rattle.model.proofs.Cases.{by-bool, clash}
+use Rattle.answers.proofs.Told.{other-case}
 use Rattle.answers.specs.declared.Refusal.{Refusal}
 use Rattle.answers.specs.declared.Refusal.the-variants.{Sizes, Damaged, NoSlot}
 use Rattle.answers.specs.declared.Outcome.{Outcome}
@@ -27,7 +28,7 @@ use Rattle.ints.proofs.Bridge.{scan-bad, scan-live}
 use Rattle.ints.specs.Maps.{maps}
 use Rattle.kinds.specs.Told.{told}
 use Rattle.int_union.specs.Calls.{unionOf, planOf, lacksOf, allStored}
-use Rattle.ints.proofs.Seeking.{same-long}
+use Rattle.ints.proofs.MapSizes.{same-long}
 
 -- keys take no arena bytes
 weightless : (g : ℕ → ℕ) → ((k : ℕ) → g k ≡ 0) → (t : Table ℕ ℕ) (n : ℕ) → total g t n ≡ 0
@@ -85,13 +86,13 @@ live-low marks p q = scan-live values (memory marks marks marks) p q .2
 -- what the plan's answer says of the theory's
 plan-ok : {A : Type 0} {a : Outcome} (x : Or A) → outcomeNumbers a ≡ doneSaid x → a ≡ outcome.Done → (u : A) × (x ≡ ok u)
 unfolding outcomeNumbers doneSaid
-plan-ok (no n) p q = let z : ⊥ = omega (arith, ap (λ n. n .case) (rw q at p)) in absurd z
+plan-ok (no n) p q = other-case (rw q at p) refl
 plan-ok (ok u) p q = (u, refl)
 
 plan-no : {A : Type 0} {a : Outcome} {e : Refusal} (x : Or A) → outcomeNumbers a ≡ doneSaid x → a ≡ outcome.Refused e → x ≡ no (numberOf e)
 unfolding outcomeNumbers doneSaid
 plan-no (no n) p q = ap no (sym (ap (λ n. n .refusal) (rw q at p)))
-plan-no (ok u) p q = let z : ⊥ = omega (arith, ap (λ n. n .case) (rw q at p)) in absurd z
+plan-no (ok u) p q = other-case (rw q at p) refl
 
 module _ (l r : Cells values) {a : Outcome} (p : outcomeNumbers a ≡ planOf l r) where
   -- a plan that is done has right sizes

@@ -19,12 +19,11 @@ use Rattle.ints.specs.Memory.{memory}
 use Rattle.ints.specs.Scanning.{nexting}
 use Rattle.ints.specs.Seeking.{fittingMap}
 use Rattle.ints.proofs.Bridge.{paced-by}
-use Rattle.ints.proofs.Seeking.{same-long}
+use Rattle.ints.proofs.MapSizes.{fit, unfit, same-long}
 use Rattle.int_walk.specs.declared.Paced.the-variants.{Pair, Nothing, Done}
 use Rattle.int_walk.specs.declared.Stride.{Stride}
 use Rattle.int_walk.specs.Calls.{paceOf, stepOf}
 use Rattle.int_walk.specs.Numbers.{pacedNumbers, stepNumbers}
-use Rattle.int_map.proofs.Laws.{fit, unfit}
 
 module _ (marks keys vs : List ℕ) (at : ℕ) where
   -- the slots of a step

@@ -4,3 +4,5 @@ pub mod Lawful
 pub mod Places
 pub mod Sizes
 pub mod Seeking
+pub mod MapSizes
+pub mod SetSizes

@@ -5,7 +5,6 @@ use mathlib.Core.Path.{_≡_, refl, sym, _∙_}
 use native.Mathlib.Omega.{arith}
 use mathlib.Core.List.{List}
 use borrow.Author.Tests.{eq-eqb, ne-eqb, eqb-true}
-use lib.Dec.{eqb}
 use lib.ListN.{length}
 use Rattle.model.specs.Store.{Store, path}
 use Rattle.answers.specs.declared.Refusal.the-variants.{Sizes}
@@ -20,7 +19,6 @@ use Rattle.ints.specs.Memory.{Cells, cells, fitting, memory}
 use Rattle.ints.specs.Probing.{probing}
 use Rattle.ints.specs.Seeking.{seeking, fittingMap, seekingMap}
 use Rattle.kinds.proofs.Bridge.{seenOf, spotOf}
-use Rattle.ints.proofs.Sizes.{fitting-says}
 use Rattle.ints.proofs.Bridge.{sized-is, sized-short, probing-path, get-probing, remove-probing, entry-probing, hit-slot, free-slot}
 
 module _ {K W : Type 0} (M : Store K W) (m : M .State) (k : K) (e : M .sized m ≡ false) where
@@ -93,13 +91,6 @@ module _ (marks keys vs : List ℕ) where
   pub seek-short : (k : ℕ) → (length marks ≡ length vs → ⊥) → Refused Sizes ≡ seekingMap marks keys vs k
   unfolding seekingMap seeking
   seek-short k h = rw (ne-eqb (length marks) (length vs) h)
-
-  -- right sizes: the three arrays are of one length
-  pub same-long : {b : Bool} → b ≡ fittingMap marks keys vs → b ≡ true → (length keys ≡ length marks) × (length vs ≡ length marks)
-  unfolding fittingMap
-  same-long p q =
-      let (a, d) = both (fitting marks keys) (eqb (length marks) (length vs)) (sym (sized-is values (memory marks keys vs)) ∙ sym p ∙ q) in
-      (fitting-says marks keys a .1, sym (eqb-true (length marks) (length vs) d))
 
   -- a slot that the probing answers is inside all three arrays
   module _ (k : ℕ) {r : Probed} (p : r ≡ seekingMap marks keys vs k) where

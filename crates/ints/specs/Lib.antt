@@ -5,3 +5,4 @@ pub mod Probing
 pub mod Scanning
 pub mod Seeking
 pub mod Maps
+pub mod Sets

@@ -6,7 +6,7 @@ use mathlib.Core.Option.{none}
 use mathlib.Core.Path.{_≡_, refl, _∙_}
 use Rattle.model.specs.Store.{Store}
 use Rattle.model.specs.Calls.{Or, no, ok}
-use Rattle.model.specs.Machine.{Answer, refused, fine, number, truth, seen, spot, value, paced, report, World, answer, turned}
+use Rattle.model.specs.Machine.{Answer, refused, fine, number, truth, seen, spot, value, paced, report, World, answer}
 use Rattle.model.specs.Lawful.{Lawful, Steady}
 use Rattle.model.specs.Demand1.{Least, rows, refusal, numberIn}
 use Rattle.model.specs.Demand2.{refuses, InStep}
@@ -15,7 +15,7 @@ use Rattle.model.proofs.Cases.{by-bool, clash}
 use Rattle.model.proofs.Least.{KeyBar, lowest-given, refused-still}
 use Rattle.model.proofs.Demand2 as model
 use Rattle.model.proofs.Places.{only-named}
-use Rattle.kinds.specs.Published.{Published, Linked, afterwards, meantAll}
+use Rattle.kinds.specs.Published.{Published, Linked, meantAll}
 
 module _ {K W : Type 0} where
   -- what a report's refusal is: the number of what it reports
@@ -50,11 +50,6 @@ module _ {K W : Type 0} (M : Store K W) (P : Published M) (N : Linked M P) where
   -- A call changes no lent place that its rule does not name.
   pub named-only : Steady M → (Q : Places M) → Apart M Q → (w : World M) (x : ℕ) (c : P .Call) (p : Q .Place) → names M Q p w x (P .meant w x c) ≡ false → Q .word (P .told-by w x c .memory) p ≡ Q .word (w x) p
   named-only T Q A w x c p e = rw (N .memory w x c) (only-named M Q A T w x (P .meant w x c) p e)
-
-  -- A published call leaves the tables that the theory's call leaves.
-  pub afterwards-turned : (w : World M) (x : ℕ) (c : P .Call) → afterwards M P w x c ≡ turned M w x (P .meant w x c)
-  unfolding afterwards turned
-  afterwards-turned w x c = rw (N .memory w x c)
 
   -- Demand 2: any list of published calls over any number of tables, on any memory, runs in step with finite maps from each table's make on.
   pub run-in-step : (L : Lawful M) (cs : List (ℕ × P .Call)) (w : World M) → InStep M L (meantAll M P w cs) w (λ y. none)

@@ -9,8 +9,7 @@ use lib.Dec.{eqb}
 use Rattle.model.specs.Slots.{bad, hurts, weigh, total, count, damaged}
 use Rattle.model.specs.Path.{from}
 use Rattle.model.specs.Walk.{halts}
-use Rattle.model.proofs.Cases.{by-bool, by-lt}
-use Rattle.model.proofs.Path.{from-low}
+use Rattle.model.proofs.Cases.{by-bool}
 use Rattle.model.proofs.Slots.{damaged-bad}
 use Rattle.kinds.specs.declared.Scanned.the-variants as scanned
 use Rattle.kinds.specs.declared.Next.{Next}
@@ -111,12 +110,6 @@ module _ {mark : ℕ → ℕ} {S e i : ℕ} {a : Next} (w : Ahead mark S e i a) 
     pub ahead-on : m ≤ 2 → (m ≡ 1 → ⊥) → Ahead mark S e (i + 1) a
     unfolding nextingOf from
     ahead-on h k = record { beyond = w .beyond; gives = rw (← w .gives, more, cell-passed (mark i) (tt {0}) (tt {0}) (rw p at h) (λ z. k (omega arith)), add-one) }
-
-  pub ahead-past : S ≤ i → next.Nothing ≡ a
-  unfolding nextingOf nextAt cell
-  ahead-past h = rw (← w .gives) (by-lt (from (λ j. halts (marksOnly mark j)) (e - i) i) e
-      (λ a q. rw (q, w .beyond (from (λ j. halts (marksOnly mark j)) (e - i) i) (omega (arith, from-low (λ j. halts (marksOnly mark j)) (e - i) i))))
-      (λ a q. rw q))
 
   pub ahead-end : e ≤ i → next.Nothing ≡ a
   unfolding nextingOf from

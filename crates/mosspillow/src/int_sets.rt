@@ -2,7 +2,7 @@
 ghost use mathlib.Core.Path.{_≡_};
 ghost use Rattle.kinds.specs.Told.{told};
 ghost use Rattle.lent.specs.Moved.{movedOn};
-ghost use Rattle.int_set.specs.Memory.{memory};
+ghost use Rattle.ints.specs.Sets.{memory};
 ghost use Rattle.int_set.specs.Calls.{makeOf, insertOf, removeOf};
 ghost use Rattle.int_set_reads.specs.Calls.{capacityOf, lenOf, isEmptyOf, reserveOf, getOf, containsOf};
 ghost use Rattle.int_set_copy.specs.Calls.{copyOf};

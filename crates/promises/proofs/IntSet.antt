@@ -26,7 +26,7 @@ use Rattle.kinds.proofs.Published.{reported, lowest-told, refused-same, named-o
 use Rattle.ints.specs.Places.{Place, wordIn, places}
 use Rattle.ints.proofs.Lawful.{cells-lawful}
 use Rattle.ints.proofs.Places.{cells-steady, cells-apart}
-use Rattle.int_set.specs.Memory.{sets}
+use Rattle.ints.specs.Sets.{sets}
 use Rattle.answers.specs.Said.{keyHanded}
 use Rattle.int_set.specs.Calls.{makeOf, insertOf, removeOf}
 use Rattle.int_set_reads.specs.Calls.{capacityOf, lenOf, isEmptyOf, reserveOf, getOf, containsOf}

@@ -6,7 +6,7 @@ use Rattle.kinds.specs.Columns.{nothing}
 use Rattle.kinds.specs.Told.{Told, told}
 use Rattle.kinds.specs.Published.{Published}
 use Rattle.ints.specs.Memory.{Cells}
-use Rattle.int_set.specs.Memory.{sets}
+use Rattle.ints.specs.Sets.{sets}
 use Rattle.int_set.specs.Calls.{makeOf, insertOf, removeOf}
 use Rattle.int_set_reads.specs.Calls.{capacityOf, lenOf, isEmptyOf, reserveOf, getOf, containsOf}
 use Rattle.int_set_copy.specs.Calls.{copyOf}

@@ -1,6 +1,6 @@
 -- `int_handles::grip` meets its contract: sizes, then the slot number, then what the slot holds.
 use native.Mathlib.Omega.{arith}
-use Rattle.ints.proofs.Seeking.{same-long}
+use Rattle.ints.proofs.MapSizes.{same-long}
 use Rattle.int_handles.proofs.Grips.{grip-held, grip-beyond, grip-unfit}
 use borrow.Author.Needs.{needs}
 use Rattle.int_handles.proofs.grip.Statement.{statement}

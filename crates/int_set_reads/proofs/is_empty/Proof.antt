@@ -2,7 +2,7 @@
 use borrow.Author.Needs.{needs}
 use Rattle.kinds.specs.Calls as kinds
 use Rattle.kinds.proofs.Counts.{empty-none, empty-some, empty-not}
-use Rattle.int_set.specs.Memory.{sets}
+use Rattle.ints.specs.Sets.{sets}
 use Rattle.int_set_reads.specs.Calls.{lenOf, isEmptyOf}
 use Rattle.int_set_reads.proofs.is_empty.Statement.{statement}
 use Rattle.int_set_reads.proofs.is_empty.Tie as tie

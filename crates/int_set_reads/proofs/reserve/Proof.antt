@@ -3,7 +3,7 @@ use borrow.Author.Needs.{needs}
 use native.Mathlib.Omega.{arith}
 use Rattle.kinds.specs.Calls as kinds
 use Rattle.kinds.proofs.Counts.{count-within, reserve-room, reserve-none, reserve-not}
-use Rattle.int_set.specs.Memory.{sets}
+use Rattle.ints.specs.Sets.{sets}
 use Rattle.int_set_reads.specs.Calls.{lenOf, reserveOf}
 use Rattle.int_set_reads.proofs.reserve.Statement.{statement}
 use Rattle.int_set_reads.proofs.reserve.Tie as tie

@@ -1,6 +1,6 @@
 -- `int_union::room` meets its contract: damage in either table, then the count of what the right needs.
 use mathlib.Core.Path.{refl}
-use Rattle.ints.proofs.Seeking.{same-long}
+use Rattle.ints.proofs.MapSizes.{same-long}
 use Rattle.int_union.proofs.Joining.{live-low, left-bad, right-bad, room-done, room-none}
 use borrow.Author.Needs.{needs}
 use Rattle.int_union.proofs.room.Statement.{statement}

@@ -39,7 +39,7 @@ use denote.Triple.Table.{entered, cited}
 use denote.Triple.Walked.{says, Stays, stay-ref, hasOf, walkOf, goes-ref, Walks, ends-at, walked, walk-meets}
 use Rattle.lent.proofs.Moved.{moved}
 use Rattle.lent.proofs.Walks.{beside, dropped, all-dropped, none-kept, opened, answered, moved-on}
-use Rattle.int_set.specs.Memory.{memory}
+use Rattle.ints.specs.Sets.{memory}
 use Rattle.int_set_walk.specs.Calls.{stepOf}
 use Rattle.int_set_walk.specs.Numbers.{stepNumbers}
 use Rattle.int_set_walk.specs.declared.Walk.{Walk}

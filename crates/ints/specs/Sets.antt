@@ -1,9 +1,9 @@
--- An integer set as a store.
+-- An integer set as a store. The crates of the integer set share it.
 use Prim.Native.Nat.{ℕ}
 use mathlib.Core.List.{List}
 use Rattle.model.specs.Store.{Store}
 use Rattle.kinds.specs.Columns.{nothing}
 use Rattle.ints.specs.Memory.{Cells, cells}
 
 -- An integer set as a store: no values stand beside its keys.
 abbrev pub sets : Store ℕ (Unit {0})
