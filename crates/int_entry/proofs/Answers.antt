@@ -21,13 +21,15 @@ use Rattle.int_handles.specs.declared.Held.{Held}
 use Rattle.int_handles.specs.declared.Held.the-variants as held
 use Rattle.int_handles.specs.declared.Swapped.{Swapped}
 use Rattle.int_handles.specs.declared.Swapped.the-variants as swapped
-use Rattle.int_handles.specs.declared.Standing.the-variants as standing
+use Rattle.int_vacant.specs.declared.Standing.the-variants as standing
 use Rattle.ints.specs.Maps.{maps}
 use Rattle.kinds.specs.Told.{told}
 use Rattle.kinds.proofs.Told.{said, left, retold}
 use Rattle.answers.specs.Said.{swappedSaid, standingSaid}
-use Rattle.int_handles.specs.Numbers.{heldNumbers, swappedNumbers, standingNumbers}
-use Rattle.int_handles.specs.Calls.{getOf, setOf, insertOf}
+use Rattle.int_handles.specs.Numbers.{heldNumbers, swappedNumbers}
+use Rattle.int_vacant.specs.Numbers.{standingNumbers}
+use Rattle.int_handles.specs.Calls.{getOf, setOf}
+use Rattle.int_vacant.specs.Calls.{insertOf}
 use Rattle.int_entry.specs.Calls.{placeOf, handleOf, slotOf, orInsertOf, insertEntryOf}
 use Rattle.int_handles.proofs.Grips.{get-ok, get-no}
 

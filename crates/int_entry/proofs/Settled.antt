@@ -5,8 +5,8 @@ use Rattle.kinds.specs.Columns.{values}
 use Rattle.kinds.specs.Told.{Settled, SettledWith}
 use Rattle.kinds.proofs.Settled.{settled, settled-with}
 use Rattle.ints.specs.Memory.{Cells}
-use Rattle.int_handles.specs.Numbers.{standingNumbers}
-use Rattle.int_handles.proofs.Equal.{standingNumbers-injective}
+use Rattle.int_vacant.specs.Numbers.{standingNumbers}
+use Rattle.int_vacant.proofs.Equal.{standingNumbers-injective}
 use Rattle.int_entry.specs.declared.Entered.{Entered}
 use Rattle.int_entry.specs.Numbers.{enteredNumbers}
 use Rattle.int_entry.specs.Calls.{entryOf, handleOf, orInsertOf, insertEntryOf}

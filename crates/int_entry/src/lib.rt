@@ -3,20 +3,20 @@ ghost use mathlib.Core.Path.{_≡_};
 ghost use lib.ListN.{length};
 ghost use Rattle.ints.specs.Memory.{memory};
 ghost use Rattle.kinds.specs.Told.{told};
-ghost use Rattle.int_handles.specs.Numbers.{standingNumbers};
+ghost use Rattle.int_vacant.specs.Numbers.{standingNumbers};
 ghost use Rattle.int_entry.specs.Numbers.{enteredNumbers};
 ghost use Rattle.int_entry.specs.Calls.{entryOf, placeOf, handleOf, orInsertOf, insertEntryOf};
 use answers::Refusal;
 use kinds::Probed;
 
-// The handles and the answers of their calls stand in `int_handles`, and are had here too.
+// The handles and the answers of their calls stand in `int_handles` and `int_vacant`, and are had here too.
 pub use int_handles::Held;
 pub use int_handles::Occupied;
-pub use int_handles::Standing;
 pub use int_handles::Swapped;
 pub use int_handles::Taken;
 pub use int_handles::TakenEntry;
-pub use int_handles::Vacant;
+pub use int_vacant::Standing;
+pub use int_vacant::Vacant;
 
 // The answer of entry: an occupied handle with the value, or a vacant one, each with the examined number.
 pub enum Entered {

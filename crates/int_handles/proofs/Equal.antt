@@ -9,9 +9,7 @@ use Rattle.int_handles.specs.declared.Taken.{Taken}
 use Rattle.int_handles.specs.declared.Taken.the-variants as taken
 use Rattle.int_handles.specs.declared.TakenEntry.{TakenEntry}
 use Rattle.int_handles.specs.declared.TakenEntry.the-variants as taken-entry
-use Rattle.int_handles.specs.declared.Standing.{Standing}
-use Rattle.int_handles.specs.declared.Standing.the-variants as standing
-use Rattle.int_handles.specs.Numbers.{heldNumbers, swappedNumbers, takenNumbers, takenEntryNumbers, standingNumbers}
+use Rattle.int_handles.specs.Numbers.{heldNumbers, swappedNumbers, takenNumbers, takenEntryNumbers}
 
 pub heldNumbers-injective : (a b : Held) → heldNumbers a ≡ heldNumbers b → a ≡ b
 unfolding heldNumbers
@@ -40,10 +38,3 @@ takenEntryNumbers-injective (taken-entry.Removed k v) (taken-entry.Removed k′ 
 takenEntryNumbers-injective (taken-entry.Removed k v) (taken-entry.Refused r′) q = other-case q refl
 takenEntryNumbers-injective (taken-entry.Refused r) (taken-entry.Removed k′ v′) q = other-case q refl
 takenEntryNumbers-injective (taken-entry.Refused r) (taken-entry.Refused r′) q = ap taken-entry.Refused (numberOf-injective r r′ (ap (λ n. n .refusal) q))
-
-pub standingNumbers-injective : (a b : Standing) → standingNumbers a ≡ standingNumbers b → a ≡ b
-unfolding standingNumbers
-standingNumbers-injective (standing.Now h v) (standing.Now h′ v′) q = let z : h ≡ h′ = ap (λ s. record { slot = s }) (ap (λ n. n .slot) q) in cc (ap (λ n. n .value) q)
-standingNumbers-injective (standing.Now h v) (standing.Refused r′) q = other-case q refl
-standingNumbers-injective (standing.Refused r) (standing.Now h′ v′) q = other-case q refl
-standingNumbers-injective (standing.Refused r) (standing.Refused r′) q = ap standing.Refused (numberOf-injective r r′ (ap (λ n. n .refusal) q))

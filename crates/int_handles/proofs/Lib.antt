@@ -1,5 +1,4 @@
--- The laws of the integer map's handles.
+-- The laws of the integer map's occupied handles.
 pub mod Equal
 pub mod Grips
-pub mod Vacancies
 pub mod Settled

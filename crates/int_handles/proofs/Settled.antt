@@ -4,9 +4,9 @@ use Rattle.kinds.specs.Columns.{values}
 use Rattle.kinds.specs.Told.{Settled, SettledWith}
 use Rattle.kinds.proofs.Settled.{settled, settled-with}
 use Rattle.ints.specs.Memory.{Cells}
-use Rattle.int_handles.specs.Numbers.{heldNumbers, swappedNumbers, takenNumbers, takenEntryNumbers, standingNumbers}
-use Rattle.int_handles.specs.Calls.{getOf, setOf, removeOf, removeEntryOf, insertOf}
-use Rattle.int_handles.proofs.Equal.{heldNumbers-injective, swappedNumbers-injective, takenNumbers-injective, takenEntryNumbers-injective, standingNumbers-injective}
+use Rattle.int_handles.specs.Numbers.{heldNumbers, swappedNumbers, takenNumbers, takenEntryNumbers}
+use Rattle.int_handles.specs.Calls.{getOf, setOf, removeOf, removeEntryOf}
+use Rattle.int_handles.proofs.Equal.{heldNumbers-injective, swappedNumbers-injective, takenNumbers-injective, takenEntryNumbers-injective}
 
 module _ (m : Cells values) where
   -- `Occupied::get`.
@@ -24,7 +24,3 @@ module _ (m : Cells values) where
   -- `Occupied::remove_entry`.
   pub remove-entry-settled : (s k : ℕ) → SettledWith takenEntryNumbers (removeEntryOf m s k)
   remove-entry-settled s k = settled-with takenEntryNumbers-injective
-
-  -- `Vacant::insert`.
-  pub insert-settled : (s k v : ℕ) → SettledWith standingNumbers (insertOf m s k v)
-  insert-settled s k v = settled-with standingNumbers-injective

@@ -1,8 +1,8 @@
--- What each call of an integer map's handles tells and leaves: the theory's calls, at this store.
+-- What each call of an integer map's occupied handles tells and leaves: the theory's calls, at this store.
 use Prim.Native.Nat.{ℕ}
-use Rattle.model.specs.Calls.{occupied-get, after-set, occupied-remove, after-drop, vacancy, vacant-insert, after-fill}
+use Rattle.model.specs.Calls.{occupied-get, after-set, occupied-remove, after-drop}
 use Rattle.answers.specs.declared.Numbers.{Numbers}
-use Rattle.answers.specs.Said.{doneSaid, heldSaid, swappedSaid, takenSaid, takenEntrySaid, standingSaid}
+use Rattle.answers.specs.Said.{heldSaid, swappedSaid, takenSaid, takenEntrySaid}
 use Rattle.kinds.specs.Columns.{values}
 use Rattle.ints.specs.Memory.{Cells}
 use Rattle.ints.specs.Maps.{maps}
@@ -23,11 +23,3 @@ removeOf m s k = told (takenSaid (occupied-remove maps m s k)) (after-drop maps 
 -- Its remove_entry: the same, and the key is told too.
 unfoldable pub removeEntryOf : Cells values → ℕ → ℕ → Told (Cells values)
 removeEntryOf m s k = told (takenEntrySaid k (occupied-remove maps m s k)) (after-drop maps m s k)
-
--- Whether a vacant handle is good.
-unfoldable pub freshOf : Cells values → ℕ → ℕ → Numbers
-freshOf m s k = doneSaid (vacancy maps m s k)
-
--- A vacant handle's insert: its slot takes the key and the value.
-unfoldable pub insertOf : Cells values → ℕ → ℕ → ℕ → Told (Cells values)
-insertOf m s k v = told (standingSaid s (vacant-insert maps m s k v)) (after-fill maps m s k v)

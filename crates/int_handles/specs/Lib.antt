@@ -1,3 +1,3 @@
--- The definitions of the integer map's handles.
+-- The definitions of the integer map's occupied handles.
 pub mod Numbers
 pub mod Calls

@@ -1,4 +1,4 @@
--- The numbers that the paper prints for the answers of handles.
+-- The numbers that the paper prints for the answers of occupied handles.
 use Rattle.answers.specs.declared.Numbers.{Numbers}
 use Rattle.answers.specs.Numbers.{refusalNumbers}
 use Rattle.answers.specs.Said.{saidCase}
@@ -10,8 +10,6 @@ use Rattle.int_handles.specs.declared.Taken.{Taken}
 use Rattle.int_handles.specs.declared.Taken.the-variants as taken
 use Rattle.int_handles.specs.declared.TakenEntry.{TakenEntry}
 use Rattle.int_handles.specs.declared.TakenEntry.the-variants as taken-entry
-use Rattle.int_handles.specs.declared.Standing.{Standing}
-use Rattle.int_handles.specs.declared.Standing.the-variants as standing
 
 -- Of an occupied handle's get: case 17, the value and the handle's slot.
 unfoldable pub heldNumbers : Held → Numbers
@@ -32,8 +30,3 @@ takenNumbers (taken.Refused r) = refusalNumbers r
 unfoldable pub takenEntryNumbers : TakenEntry → Numbers
 takenEntryNumbers (taken-entry.Removed k v) = saidCase 11 k v 0 0
 takenEntryNumbers (taken-entry.Refused r) = refusalNumbers r
-
--- Of a vacant handle's insert, or_insert and insert_entry: case 19, the value now in the slot, and the handle's slot.
-unfoldable pub standingNumbers : Standing → Numbers
-standingNumbers (standing.Now h v) = saidCase 19 0 v (h .slot) 0
-standingNumbers (standing.Refused r) = refusalNumbers r

@@ -1,25 +1,17 @@
-// The integer map's handles: small values that their own calls take and hand back; the key is given again each time.
+// The integer map's occupied handles: small values that their own calls take and hand back; the key is given again each time.
 ghost use mathlib.Core.Path.{_≡_};
 ghost use Rattle.model.specs.Calls.{gripOn};
-ghost use Rattle.answers.specs.Numbers.{outcomeNumbers};
 ghost use Rattle.kinds.specs.Marks.{cell};
 ghost use Rattle.ints.specs.Memory.{memory};
 ghost use Rattle.ints.specs.Maps.{maps};
 ghost use Rattle.kinds.specs.Told.{told};
 ghost use Rattle.answers.specs.Said.{heldSaid};
-ghost use Rattle.int_handles.specs.Numbers.{heldNumbers, swappedNumbers, takenNumbers, takenEntryNumbers, standingNumbers};
-ghost use Rattle.int_handles.specs.Calls.{getOf, setOf, removeOf, removeEntryOf, freshOf, insertOf};
-use answers::Outcome;
+ghost use Rattle.int_handles.specs.Numbers.{heldNumbers, swappedNumbers, takenNumbers, takenEntryNumbers};
+ghost use Rattle.int_handles.specs.Calls.{getOf, setOf, removeOf, removeEntryOf};
 use answers::Refusal;
-use kinds::Probed;
 
 // A handle of a slot that holds a key.
 pub struct Occupied {
-    pub slot: usize,
-}
-
-// A handle of the slot that a key would take.
-pub struct Vacant {
     pub slot: usize,
 }
 
@@ -44,12 +36,6 @@ pub enum Taken {
 // The answer of its remove_entry: the key and the value.
 pub enum TakenEntry {
     Removed(u64, u64),
-    Refused(Refusal),
-}
-
-// The answer of the calls that leave the key in a slot: its handle, and the value now in the slot.
-pub enum Standing {
-    Now(Occupied, u64),
     Refused(Refusal),
 }
 
@@ -80,24 +66,6 @@ fn grip(marks: &[u8], keys: &[u64], values: &[u64], slot: usize, key: u64) -> He
         return Held::Refused(Refusal::BadHandle);
     }
     Held::Refused(Refusal::Sizes)
-}
-
-// Whether a vacant handle of this slot is good for the key: insert would use that very slot.
-fn fresh_at(marks: &[u8], keys: &[u64], values: &[u64], slot: usize, key: u64) -> Outcome
-    ensures { λ r. ⌜ outcomeNumbers r ≡ freshOf (memory (now (marks .entry)) (now (keys .entry)) (now (values .entry))) slot key ⌝ }
-{
-    let seen = ints::seek(marks, keys, values, key);
-    match seen {
-        Probed::Free(free, _) => {
-            if slot == free {
-                return Outcome::Done;
-            }
-            return Outcome::Refused(Refusal::BadHandle);
-        }
-        Probed::Hit(_, _) => return Outcome::Refused(Refusal::BadHandle),
-        Probed::Full(_) => return Outcome::Refused(Refusal::BadHandle),
-        Probed::Refused(r) => return Outcome::Refused(r),
-    }
 }
 
 impl Occupied {
@@ -161,32 +129,6 @@ impl Occupied {
         match taken {
             Taken::Removed(old) => TakenEntry::Removed(key, old),
             Taken::Refused(r) => TakenEntry::Refused(r),
-        }
-    }
-}
-
-impl Vacant {
-    // Puts the key and a value into the slot, where insert would use that very slot.
-    pub fn insert(
-        self,
-        marks: &mut [u8],
-        keys: &mut [u64],
-        values: &mut [u64],
-        key: u64,
-        value: u64,
-    ) -> Standing
-        ensures { λ r. ⌜ told (standingNumbers r) (memory (now (marks .exit)) (now (keys .exit)) (now (values .exit))) ≡ insertOf (memory (now (marks .entry)) (now (keys .entry)) (now (values .entry))) (self .slot) key value ⌝ }
-    {
-        let slot = self.slot;
-        let worth = fresh_at(marks, keys, values, slot, key);
-        match worth {
-            Outcome::Done => {
-                marks[slot] = 1;
-                keys[slot] = key;
-                values[slot] = value;
-                Standing::Now(Occupied { slot }, value)
-            }
-            Outcome::Refused(r) => Standing::Refused(r),
         }
     }
 }

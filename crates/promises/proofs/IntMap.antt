@@ -35,6 +35,7 @@ use Rattle.int_union.specs.Calls.{unionOf}
 use Rattle.int_walk.specs.Calls.{stepOf}
 use Rattle.int_handles.specs.Calls.{setOf, removeEntryOf}
 use Rattle.int_handles.specs.Calls as handles
+use Rattle.int_vacant.specs.Calls as vacants
 use Rattle.int_entry.specs.Calls.{entryOf, orInsertOf, insertEntryOf}
 use Rattle.lent.specs.Moved.{movedOn}
 use Rattle.lent.proofs.Moved.{moved-said}
@@ -46,7 +47,7 @@ maps-lawful = cells-lawful values values-orderly
 
 -- Each published call tells the refusal of the theory's call.
 number-told : (w : World maps) (x : ℕ) (c : Call) → told-by w x c .numbers .refusal ≡ refusal (answer maps w x (meant w x c))
-unfolding told-by meant answer tells left leaves makeOf capacityOf lenOf isEmptyOf reserveOf getOf containsKeyOf insertOf removeOf copyOf unionOf stepOf entryOf setOf removeEntryOf orInsertOf insertEntryOf handles.getOf handles.removeOf handles.insertOf refusal
+unfolding told-by meant answer tells left leaves makeOf capacityOf lenOf isEmptyOf reserveOf getOf containsKeyOf insertOf removeOf copyOf unionOf stepOf entryOf setOf removeEntryOf orInsertOf insertEntryOf handles.getOf handles.removeOf vacants.insertOf refusal
 number-told w x make = doneSaid-refusal _ ∙ sym (reported (λ n. fine) (λ a. refl) _)
 number-told w x clear = doneSaid-refusal _ ∙ sym (reported (λ n. fine) (λ a. refl) _)
 number-told w x capacity = countSaid-refusal _ ∙ sym (reported number (λ a. refl) _)
@@ -71,7 +72,7 @@ number-told w x (insert-entry e k v) = standingSaid-refusal _ _ ∙ sym (reporte
 
 -- And leaves its memory.
 memory-told : (w : World maps) (x : ℕ) (c : Call) → told-by w x c .memory ≡ left maps w x (meant w x c)
-unfolding told-by meant answer tells left leaves makeOf capacityOf lenOf isEmptyOf reserveOf getOf containsKeyOf insertOf removeOf copyOf unionOf stepOf entryOf setOf removeEntryOf orInsertOf insertEntryOf handles.getOf handles.removeOf handles.insertOf
+unfolding told-by meant answer tells left leaves makeOf capacityOf lenOf isEmptyOf reserveOf getOf containsKeyOf insertOf removeOf copyOf unionOf stepOf entryOf setOf removeEntryOf orInsertOf insertEntryOf handles.getOf handles.removeOf vacants.insertOf
 memory-told w x make = refl
 memory-told w x clear = refl
 memory-told w x capacity = refl

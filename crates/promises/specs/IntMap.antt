@@ -15,6 +15,7 @@ use Rattle.int_union.specs.Calls.{unionOf}
 use Rattle.int_walk.specs.Calls.{stepOf}
 use Rattle.int_handles.specs.Calls.{setOf, removeEntryOf}
 use Rattle.int_handles.specs.Calls as handles
+use Rattle.int_vacant.specs.Calls as vacants
 use Rattle.int_entry.specs.declared.Entered.{Entered}
 use Rattle.int_entry.specs.Calls.{entryOf, handleOf, orInsertOf, insertEntryOf}
 
@@ -46,7 +47,7 @@ told-by w x (occupied-remove s k) = handles.removeOf (w x) s k
 told-by w x (occupied-remove-entry s k) = removeEntryOf (w x) s k
 told-by w x (step at budget) = told (stepOf (w x) at budget) (w x)
 told-by w x (occupied-set s k v) = setOf (w x) s k v
-told-by w x (vacant-insert s k v) = handles.insertOf (w x) s k v
+told-by w x (vacant-insert s k v) = vacants.insertOf (w x) s k v
 told-by w x (or-insert e k v) = orInsertOf (w x) (handleOf (length (w x .marks)) e) k v
 told-by w x (insert-entry e k v) = insertEntryOf (w x) (handleOf (length (w x .marks)) e) k v
 

@@ -1,9 +1,9 @@
 -- `Vacant::insert` meets its contract: a good handle's slot takes the pair, a refusal leaves all.
 use native.Mathlib.Omega.{arith}
-use Rattle.int_handles.proofs.Vacancies.{fresh-slot, insert-done, insert-refused}
+use Rattle.int_vacant.proofs.Vacancies.{fresh-slot, insert-done, insert-refused}
 use borrow.Author.Needs.{needs}
-use Rattle.int_handles.proofs.Vacant.insert.Statement.{statement}
-use Rattle.int_handles.proofs.Vacant.insert.Tie as tie
+use Rattle.int_vacant.proofs.Vacant.insert.Statement.{statement}
+use Rattle.int_vacant.proofs.Vacant.insert.Tie as tie
 
 fresh-at-requires : tie.Need-fresh-at-requires
 fresh-at-requires c κs = search needs

@@ -1,8 +1,8 @@
--- `int_handles::fresh_at` meets its contract: good where the probing ends at that free slot.
-use Rattle.int_handles.proofs.Vacancies.{fresh-free, fresh-other, fresh-hit, fresh-full, fresh-refused}
+-- `int_vacant::fresh_at` meets its contract: good where the probing ends at that free slot.
+use Rattle.int_vacant.proofs.Vacancies.{fresh-free, fresh-other, fresh-hit, fresh-full, fresh-refused}
 use borrow.Author.Needs.{needs}
-use Rattle.int_handles.proofs.fresh_at.Statement.{statement}
-use Rattle.int_handles.proofs.fresh_at.Tie as tie
+use Rattle.int_vacant.proofs.fresh_at.Statement.{statement}
+use Rattle.int_vacant.proofs.fresh_at.Tie as tie
 
 seek-requires : tie.Need-seek-requires
 seek-requires c κs = search needs

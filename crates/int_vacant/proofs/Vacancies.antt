@@ -28,11 +28,11 @@ use Rattle.kinds.specs.Probing.{along}
 use Rattle.ints.specs.Seeking.{seeking, seekingMap}
 use Rattle.kinds.proofs.Bridge.{spotOf}
 use Rattle.ints.proofs.Seeking.{entry-seeking, path-sought, free-inside}
-use Rattle.int_handles.specs.declared.Standing.the-variants as standing
+use Rattle.int_vacant.specs.declared.Standing.the-variants as standing
 use Rattle.ints.specs.Maps.{maps}
 use Rattle.kinds.specs.Told.{told}
-use Rattle.int_handles.specs.Numbers.{standingNumbers}
-use Rattle.int_handles.specs.Calls.{freshOf, insertOf}
+use Rattle.int_vacant.specs.Numbers.{standingNumbers}
+use Rattle.int_vacant.specs.Calls.{freshOf, insertOf}
 
 -- What a vacant handle of slot s is worth where the probing ended so.
 abbrev goodOf : ℕ → Probed → Or (Unit {0})

@@ -1,0 +1,14 @@
+-- The contract settles its answer and the lent arrays: two results that it allows are equal.
+use Prim.Native.Nat.{ℕ}
+use Rattle.kinds.specs.Columns.{values}
+use Rattle.kinds.specs.Told.{SettledWith}
+use Rattle.kinds.proofs.Settled.{settled-with}
+use Rattle.ints.specs.Memory.{Cells}
+use Rattle.int_vacant.specs.Numbers.{standingNumbers}
+use Rattle.int_vacant.specs.Calls.{insertOf}
+use Rattle.int_vacant.proofs.Equal.{standingNumbers-injective}
+
+module _ (m : Cells values) where
+  -- `Vacant::insert`.
+  pub insert-settled : (s k v : ℕ) → SettledWith standingNumbers (insertOf m s k v)
+  insert-settled s k v = settled-with standingNumbers-injective

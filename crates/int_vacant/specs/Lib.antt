@@ -1,0 +1,3 @@
+-- The definitions of the integer map's vacant handles.
+pub mod Numbers
+pub mod Calls
