@@ -1,1 +1,2 @@
+-- The laws of loops over whole arrays.
 pub mod Below

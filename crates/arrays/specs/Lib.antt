@@ -1,1 +1,2 @@
+-- The definitions of whole arrays.
 pub mod Whole

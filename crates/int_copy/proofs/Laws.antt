@@ -17,24 +17,25 @@ use Rattle.kinds.specs.Told.{told}
 use Rattle.ints.specs.Memory.{memory}
 use Rattle.ints.specs.Seeking.{fittingMap}
 use Rattle.ints.proofs.MapSizes.{fit, unfit, same-long}
-use Rattle.int_copy.specs.Calls.{copyOf}
+use Rattle.kinds.specs.Calls.{copyOf}
+use Rattle.ints.specs.Maps.{maps}
 
 -- copy onto the first three arrays from the others
 module _ (marks keys vs ms ks ws : List ℕ) {b : Bool} (p : b ≡ fittingMap marks keys vs) where
-  pub copy-unfit : b ≡ false → told (outcomeNumbers (outcome.Refused Sizes)) (memory marks keys vs) ≡ copyOf (memory marks keys vs) (memory ms ks ws)
+  pub copy-unfit : b ≡ false → told (outcomeNumbers (outcome.Refused Sizes)) (memory marks keys vs) ≡ copyOf maps (memory marks keys vs) (memory ms ks ws)
   unfolding copyOf copy after-copy acted need doneSaid outcomeNumbers
   copy-unfit q = rw (unfit marks keys vs p q)
 
   module _ (q : b ≡ true) {d : Bool} (r : d ≡ fittingMap ms ks ws) where
-    pub copy-from-unfit : d ≡ false → told (outcomeNumbers (outcome.Refused Sizes)) (memory marks keys vs) ≡ copyOf (memory marks keys vs) (memory ms ks ws)
+    pub copy-from-unfit : d ≡ false → told (outcomeNumbers (outcome.Refused Sizes)) (memory marks keys vs) ≡ copyOf maps (memory marks keys vs) (memory ms ks ws)
     unfolding copyOf copy after-copy acted need doneSaid outcomeNumbers
     copy-from-unfit s = rw (fit marks keys vs p q, unfit ms ks ws r s)
 
-    pub copy-unequal : d ≡ true → (length marks ≡ length ms → ⊥) → told (outcomeNumbers (outcome.Refused Sizes)) (memory marks keys vs) ≡ copyOf (memory marks keys vs) (memory ms ks ws)
+    pub copy-unequal : d ≡ true → (length marks ≡ length ms → ⊥) → told (outcomeNumbers (outcome.Refused Sizes)) (memory marks keys vs) ≡ copyOf maps (memory marks keys vs) (memory ms ks ws)
     unfolding copyOf copy after-copy acted need doneSaid outcomeNumbers
     copy-unequal s h = rw (fit marks keys vs p q, fit ms ks ws r s, ne-eqb (length marks) (length ms) h)
 
-    pub copy-done : d ≡ true → length marks ≡ length ms → {x y z : List ℕ} → x ≡ copied marks ms → y ≡ copied keys ks → z ≡ copied vs ws → told (outcomeNumbers outcome.Done) (memory x y z) ≡ copyOf (memory marks keys vs) (memory ms ks ws)
+    pub copy-done : d ≡ true → length marks ≡ length ms → {x y z : List ℕ} → x ≡ copied marks ms → y ≡ copied keys ks → z ≡ copied vs ws → told (outcomeNumbers outcome.Done) (memory x y z) ≡ copyOf maps (memory marks keys vs) (memory ms ks ws)
     unfolding copyOf copy after-copy acted need doneSaid outcomeNumbers
     copy-done s e f g h =
         let (i, j) = same-long marks keys vs p q in

@@ -5,9 +5,10 @@ use Rattle.kinds.specs.Columns.{values}
 use Rattle.kinds.specs.Told.{SettledWith}
 use Rattle.kinds.proofs.Settled.{settled-with}
 use Rattle.ints.specs.Memory.{Cells}
-use Rattle.int_copy.specs.Calls.{copyOf}
+use Rattle.kinds.specs.Calls.{copyOf}
+use Rattle.ints.specs.Maps.{maps}
 
 module _ (m : Cells values) where
   -- `copy`.
-  pub copy-settled : (from : Cells values) → SettledWith outcomeNumbers (copyOf m from)
+  pub copy-settled : (from : Cells values) → SettledWith outcomeNumbers (copyOf maps m from)
   copy-settled from = settled-with outcomeNumbers-injective

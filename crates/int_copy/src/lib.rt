@@ -1,9 +1,10 @@
-// The copy of an integer map. Its contract is one equation with a definition of specs/Calls.antt.
+// The copy of an integer map. Its contract is one equation with a definition of the theory at this store.
 ghost use mathlib.Core.Path.{_≡_};
 ghost use Rattle.answers.specs.Numbers.{outcomeNumbers};
 ghost use Rattle.kinds.specs.Told.{told};
 ghost use Rattle.ints.specs.Memory.{memory};
-ghost use Rattle.int_copy.specs.Calls.{copyOf};
+ghost use Rattle.kinds.specs.Calls.{copyOf};
+ghost use Rattle.ints.specs.Maps.{maps};
 use answers::Outcome;
 use answers::Refusal;
 use arrays::copy_bytes;
@@ -18,7 +19,7 @@ pub fn copy(
     keys: &[u64],
     values: &[u64],
 ) -> Outcome
-    ensures { λ r. ⌜ told (outcomeNumbers r) (memory (now («to_marks» .exit)) (now («to_keys» .exit)) (now («to_values» .exit))) ≡ copyOf (memory (now («to_marks» .entry)) (now («to_keys» .entry)) (now («to_values» .entry))) (memory (now (marks .entry)) (now (keys .entry)) (now (values .entry))) ⌝ }
+    ensures { λ r. ⌜ told (outcomeNumbers r) (memory (now («to_marks» .exit)) (now («to_keys» .exit)) (now («to_values» .exit))) ≡ copyOf maps (memory (now («to_marks» .entry)) (now («to_keys» .entry)) (now («to_values» .entry))) (memory (now (marks .entry)) (now (keys .entry)) (now (values .entry))) ⌝ }
 {
     if ints::map_fits(to_marks, to_keys, to_values) {
         if ints::map_fits(marks, keys, values) {

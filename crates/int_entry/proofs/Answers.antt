@@ -28,9 +28,8 @@ use Rattle.kinds.proofs.Told.{said, left, retold}
 use Rattle.answers.specs.Said.{swappedSaid, standingSaid}
 use Rattle.int_handles.specs.Numbers.{heldNumbers, swappedNumbers}
 use Rattle.int_vacant.specs.Numbers.{standingNumbers}
-use Rattle.int_handles.specs.Calls.{getOf, setOf}
-use Rattle.int_vacant.specs.Calls.{insertOf}
-use Rattle.int_entry.specs.Calls.{placeOf, handleOf, slotOf, orInsertOf, insertEntryOf}
+use Rattle.kinds.specs.Calls.{heldOf, setOf, standingOf, slotOf, orInsertOf, insertEntryOf}
+use Rattle.int_entry.specs.Calls.{placeOf, handleOf}
 use Rattle.int_handles.proofs.Grips.{get-ok, get-no}
 
 -- an answer that is not vacant counts as slot S
@@ -62,13 +61,13 @@ swapped-no s (ok w) p q = other-case (rw q at p) refl
 
 module _ (marks keys vs : List ℕ) (k v : ℕ) (a : Entered) where
   -- everything but occupied: the vacant handle's insert
-  module _ {s : ℕ} {n : Numbers} {m : Cells values} (t : (tagOf the-type a ≡ 1) ⊎ (tagOf the-type a ≡ 2)) (p : s ≡ placeOf (length marks) a) (q : told n m ≡ insertOf (memory marks keys vs) s k v) where
-    pub or-insert-vacant : told n m ≡ orInsertOf (memory marks keys vs) (handleOf (length marks) a) k v
-    unfolding orInsertOf insertOf or-insert after-or-insert slotOf
+  module _ {s : ℕ} {n : Numbers} {m : Cells values} (t : (tagOf the-type a ≡ 1) ⊎ (tagOf the-type a ≡ 2)) (p : s ≡ placeOf (length marks) a) (q : told n m ≡ standingOf maps (memory marks keys vs) s k v) where
+    pub or-insert-vacant : told n m ≡ orInsertOf maps (memory marks keys vs) (handleOf (length marks) a) k v
+    unfolding orInsertOf standingOf or-insert after-or-insert slotOf
     or-insert-vacant = rw (not-occupied (length marks) a t, ← p) q
 
-    pub insert-entry-vacant : told n m ≡ insertEntryOf (memory marks keys vs) (handleOf (length marks) a) k v
-    unfolding insertEntryOf insertOf insert-entry after-insert-entry slotOf
+    pub insert-entry-vacant : told n m ≡ insertEntryOf maps (memory marks keys vs) (handleOf (length marks) a) k v
+    unfolding insertEntryOf standingOf insert-entry after-insert-entry slotOf
     insert-entry-vacant = rw (not-occupied (length marks) a t, ← p) q
 
   module _ {h : Occupied} {w e : ℕ} (o : a ≡ entered.Occupied h w e) where
@@ -77,21 +76,21 @@ module _ (marks keys vs : List ℕ) (k v : ℕ) (a : Entered) where
     on = rw o
 
     -- occupied: the handle's get
-    module _ {r : Held} (p : heldNumbers r ≡ getOf (memory marks keys vs) (h .slot) k) where
-      pub or-insert-kept : {x : ℕ} {g : Occupied} → r ≡ held.Value x g → told (standingNumbers (standing.Now h x)) (memory marks keys vs) ≡ orInsertOf (memory marks keys vs) (handleOf (length marks) a) k v
+    module _ {r : Held} (p : heldNumbers r ≡ heldOf maps (memory marks keys vs) (h .slot) k) where
+      pub or-insert-kept : {x : ℕ} {g : Occupied} → r ≡ held.Value x g → told (standingNumbers (standing.Now h x)) (memory marks keys vs) ≡ orInsertOf maps (memory marks keys vs) (handleOf (length marks) a) k v
       unfolding orInsertOf or-insert after-or-insert slotOf standingNumbers standingSaid
       or-insert-kept q = rw (on, get-ok marks keys vs (h .slot) k p q)
 
-      pub or-insert-refused : {x : Refusal} → r ≡ held.Refused x → told (standingNumbers (standing.Refused x)) (memory marks keys vs) ≡ orInsertOf (memory marks keys vs) (handleOf (length marks) a) k v
+      pub or-insert-refused : {x : Refusal} → r ≡ held.Refused x → told (standingNumbers (standing.Refused x)) (memory marks keys vs) ≡ orInsertOf maps (memory marks keys vs) (handleOf (length marks) a) k v
       unfolding orInsertOf or-insert after-or-insert slotOf standingNumbers standingSaid
       or-insert-refused q = rw (on, get-no marks keys vs (h .slot) k p q)
 
     -- or its set
-    module _ {r : Swapped} {marks′ keys′ vs′ : List ℕ} (p : told (swappedNumbers r) (memory marks′ keys′ vs′) ≡ setOf (memory marks keys vs) (h .slot) k v) where
-      pub insert-entry-set : {x : ℕ} {g : Occupied} → r ≡ swapped.Was x g → told (standingNumbers (standing.Now h v)) (memory marks′ keys′ vs′) ≡ insertEntryOf (memory marks keys vs) (handleOf (length marks) a) k v
+    module _ {r : Swapped} {marks′ keys′ vs′ : List ℕ} (p : told (swappedNumbers r) (memory marks′ keys′ vs′) ≡ setOf maps (memory marks keys vs) (h .slot) k v) where
+      pub insert-entry-set : {x : ℕ} {g : Occupied} → r ≡ swapped.Was x g → told (standingNumbers (standing.Now h v)) (memory marks′ keys′ vs′) ≡ insertEntryOf maps (memory marks keys vs) (handleOf (length marks) a) k v
       unfolding setOf insertEntryOf insert-entry after-insert-entry slotOf give standingNumbers standingSaid
       insert-entry-set q = rw on (retold (rw (swapped-ok (h .slot) (occupied-get maps (memory marks keys vs) (h .slot) k) (said p) q)) (left p))
 
-      pub insert-entry-refused : {x : Refusal} → r ≡ swapped.Refused x → told (standingNumbers (standing.Refused x)) (memory marks′ keys′ vs′) ≡ insertEntryOf (memory marks keys vs) (handleOf (length marks) a) k v
+      pub insert-entry-refused : {x : Refusal} → r ≡ swapped.Refused x → told (standingNumbers (standing.Refused x)) (memory marks′ keys′ vs′) ≡ insertEntryOf maps (memory marks keys vs) (handleOf (length marks) a) k v
       unfolding setOf insertEntryOf insert-entry after-insert-entry slotOf give standingNumbers standingSaid
       insert-entry-refused q = rw on (retold (rw (swapped-no (h .slot) (occupied-get maps (memory marks keys vs) (h .slot) k) (said p) q)) (left p))

@@ -17,7 +17,7 @@ use Rattle.ints.specs.Seeking.{seekingMap}
 use Rattle.ints.proofs.Seeking.{entry-seeking}
 use Rattle.int_entry.specs.declared.Entered.the-variants as entered
 use Rattle.int_entry.specs.Numbers.{enteredNumbers}
-use Rattle.int_entry.specs.Calls.{entryOf}
+use Rattle.kinds.specs.Calls.{entryOf}
 
 module _ (marks keys vs : List ℕ) (k : ℕ) {r : Probed} (p : r ≡ seekingMap marks keys vs k) where
   sought-entry : entry maps (memory marks keys vs) k ≡ spotOf (λ i. getD vs i 0) r
@@ -25,18 +25,18 @@ module _ (marks keys vs : List ℕ) (k : ℕ) {r : Probed} (p : r ≡ seekingMap
   sought-entry = rw p (entry-seeking values (memory marks keys vs) k)
 
   -- what entry tells
-  pub entry-hit : {s e : ℕ} → r ≡ probed.Hit s e → enteredNumbers (entered.Occupied (record { slot = s }) (getD vs s 0) e) ≡ entryOf (memory marks keys vs) k
+  pub entry-hit : {s e : ℕ} → r ≡ probed.Hit s e → enteredNumbers (entered.Occupied (record { slot = s }) (getD vs s 0) e) ≡ entryOf maps (memory marks keys vs) k
   unfolding entryOf enteredNumbers enteredSaid
   entry-hit q = rw (sought-entry, q)
 
-  pub entry-free : {s e : ℕ} → r ≡ probed.Free s e → enteredNumbers (entered.Vacant (record { slot = s }) e) ≡ entryOf (memory marks keys vs) k
+  pub entry-free : {s e : ℕ} → r ≡ probed.Free s e → enteredNumbers (entered.Vacant (record { slot = s }) e) ≡ entryOf maps (memory marks keys vs) k
   unfolding entryOf enteredNumbers enteredSaid
   entry-free q = rw (sought-entry, q)
 
-  pub entry-full : {e : ℕ} → r ≡ probed.Full e → enteredNumbers (entered.Refused NoSlot) ≡ entryOf (memory marks keys vs) k
+  pub entry-full : {e : ℕ} → r ≡ probed.Full e → enteredNumbers (entered.Refused NoSlot) ≡ entryOf maps (memory marks keys vs) k
   unfolding entryOf enteredNumbers enteredSaid
   entry-full q = rw (sought-entry, q)
 
-  pub entry-refused : {x : Refusal} → r ≡ probed.Refused x → enteredNumbers (entered.Refused x) ≡ entryOf (memory marks keys vs) k
+  pub entry-refused : {x : Refusal} → r ≡ probed.Refused x → enteredNumbers (entered.Refused x) ≡ entryOf maps (memory marks keys vs) k
   unfolding entryOf enteredNumbers enteredSaid
   entry-refused q = rw (sought-entry, q)

@@ -9,18 +9,20 @@ use Rattle.int_vacant.specs.Numbers.{standingNumbers}
 use Rattle.int_vacant.proofs.Equal.{standingNumbers-injective}
 use Rattle.int_entry.specs.declared.Entered.{Entered}
 use Rattle.int_entry.specs.Numbers.{enteredNumbers}
-use Rattle.int_entry.specs.Calls.{entryOf, handleOf, orInsertOf, insertEntryOf}
+use Rattle.int_entry.specs.Calls.{handleOf}
+use Rattle.kinds.specs.Calls.{entryOf, orInsertOf, insertEntryOf}
+use Rattle.ints.specs.Maps.{maps}
 use Rattle.int_entry.proofs.Equal.{enteredNumbers-injective}
 
 module _ (m : Cells values) where
   -- `entry`.
-  pub entry-settled : (k : ℕ) → Settled enteredNumbers (entryOf m k)
+  pub entry-settled : (k : ℕ) → Settled enteredNumbers (entryOf maps m k)
   entry-settled k = settled enteredNumbers-injective
 
   -- `Entered::or_insert`.
-  pub or-insert-settled : (e : Entered) (k v : ℕ) → SettledWith standingNumbers (orInsertOf m (handleOf (length (m .marks)) e) k v)
+  pub or-insert-settled : (e : Entered) (k v : ℕ) → SettledWith standingNumbers (orInsertOf maps m (handleOf (length (m .marks)) e) k v)
   or-insert-settled e k v = settled-with standingNumbers-injective
 
   -- `Entered::insert_entry`.
-  pub insert-entry-settled : (e : Entered) (k v : ℕ) → SettledWith standingNumbers (insertEntryOf m (handleOf (length (m .marks)) e) k v)
+  pub insert-entry-settled : (e : Entered) (k v : ℕ) → SettledWith standingNumbers (insertEntryOf maps m (handleOf (length (m .marks)) e) k v)
   insert-entry-settled e k v = settled-with standingNumbers-injective

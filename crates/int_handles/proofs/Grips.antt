@@ -29,7 +29,8 @@ use Rattle.kinds.specs.Told.{told}
 use Rattle.kinds.proofs.Told.{said, left, retold}
 use Rattle.answers.specs.Said.{heldSaid, swappedSaid, takenSaid, takenEntrySaid}
 use Rattle.int_handles.specs.Numbers.{heldNumbers, swappedNumbers, takenNumbers, takenEntryNumbers}
-use Rattle.int_handles.specs.Calls.{getOf, setOf, removeOf, removeEntryOf}
+use Rattle.int_handles.specs.Calls.{removeEntryOf}
+use Rattle.kinds.specs.Calls.{heldOf, setOf, takenOf}
 
 -- a mark of 0 or 2 is no good handle's
 pub idle : (mark a v k : ℕ) → mark ≤ 2 → (mark ≡ 1 → ⊥) → gripOn maps k (cell mark a v) ≡ no 6
@@ -64,16 +65,16 @@ module _ (marks keys vs : List ℕ) where
   module _ (s k : ℕ) where
     -- the handle's test, one test after the other
     module _ {b : Bool} (p : b ≡ fittingMap marks keys vs) where
-      pub grip-held : {n : Numbers} → b ≡ true → s < length marks → n ≡ heldSaid s (gripOn maps k (cell (getD marks s 0) (getD keys s 0) (getD vs s 0))) → n ≡ getOf (memory marks keys vs) s k
-      unfolding getOf occupied-get grip need pass fittingMap
+      pub grip-held : {n : Numbers} → b ≡ true → s < length marks → n ≡ heldSaid s (gripOn maps k (cell (getD marks s 0) (getD keys s 0) (getD vs s 0))) → n ≡ heldOf maps (memory marks keys vs) s k
+      unfolding heldOf occupied-get grip need pass fittingMap
       grip-held q l h = rw (sym p ∙ q, lt-ltb s (length marks) l) h
 
-      pub grip-beyond : b ≡ true → length marks ≤ s → heldNumbers (held.Refused BadHandle) ≡ getOf (memory marks keys vs) s k
-      unfolding getOf occupied-get grip need pass fittingMap heldNumbers heldSaid
+      pub grip-beyond : b ≡ true → length marks ≤ s → heldNumbers (held.Refused BadHandle) ≡ heldOf maps (memory marks keys vs) s k
+      unfolding heldOf occupied-get grip need pass fittingMap heldNumbers heldSaid
       grip-beyond q l = rw (sym p ∙ q, le-ltb s (length marks) l)
 
-      pub grip-unfit : b ≡ false → heldNumbers (held.Refused Sizes) ≡ getOf (memory marks keys vs) s k
-      unfolding getOf occupied-get need fittingMap heldNumbers heldSaid
+      pub grip-unfit : b ≡ false → heldNumbers (held.Refused Sizes) ≡ heldOf maps (memory marks keys vs) s k
+      unfolding heldOf occupied-get need fittingMap heldNumbers heldSaid
       grip-unfit q = rw (sym p ∙ q)
 
     -- a good handle's slot is one of the table's
@@ -92,40 +93,40 @@ module _ (marks keys vs : List ℕ) where
     remove-get = refl
 
     -- where a get answered r
-    module _ {r : Held} (p : heldNumbers r ≡ getOf (memory marks keys vs) s k) where
+    module _ {r : Held} (p : heldNumbers r ≡ heldOf maps (memory marks keys vs) s k) where
       pub get-ok : {v : ℕ} {h : Occupied} → r ≡ held.Value v h → occupied-get maps (memory marks keys vs) s k ≡ ok v
-      unfolding getOf
+      unfolding heldOf
       get-ok q = said-ok s (occupied-get maps (memory marks keys vs) s k) p q
 
       pub get-no : {e : Refusal} → r ≡ held.Refused e → occupied-get maps (memory marks keys vs) s k ≡ no (numberOf e)
-      unfolding getOf
+      unfolding heldOf
       get-no q = said-no s (occupied-get maps (memory marks keys vs) s k) p q
 
       pub held-slot : {v : ℕ} {h : Occupied} → r ≡ held.Value v h → (s < length marks) × (length keys ≡ length marks) × (length vs ≡ length marks)
       held-slot q = good-slot (get-ok q)
 
-      pub set-done : {old : ℕ} {h : Occupied} (v : ℕ) → r ≡ held.Value old h → told (swappedNumbers (swapped.Was old (record { slot = s }))) (memory marks keys (set vs s v)) ≡ setOf (memory marks keys vs) s k v
+      pub set-done : {old : ℕ} {h : Occupied} (v : ℕ) → r ≡ held.Value old h → told (swappedNumbers (swapped.Was old (record { slot = s }))) (memory marks keys (set vs s v)) ≡ setOf maps (memory marks keys vs) s k v
       unfolding setOf after-set acted swappedNumbers swappedSaid
       set-done v q = rw (get-ok q)
 
-      pub set-refused : {e : Refusal} (v : ℕ) → r ≡ held.Refused e → told (swappedNumbers (swapped.Refused e)) (memory marks keys vs) ≡ setOf (memory marks keys vs) s k v
+      pub set-refused : {e : Refusal} (v : ℕ) → r ≡ held.Refused e → told (swappedNumbers (swapped.Refused e)) (memory marks keys vs) ≡ setOf maps (memory marks keys vs) s k v
       unfolding setOf after-set acted swappedNumbers swappedSaid
       set-refused v q = rw (get-no q)
 
-      pub remove-done : {old : ℕ} {h : Occupied} → r ≡ held.Value old h → told (takenNumbers (taken.Removed old)) (memory (set marks s 2) (set keys s 0) (set vs s 0)) ≡ removeOf (memory marks keys vs) s k
-      unfolding removeOf after-drop acted takenNumbers takenSaid
+      pub remove-done : {old : ℕ} {h : Occupied} → r ≡ held.Value old h → told (takenNumbers (taken.Removed old)) (memory (set marks s 2) (set keys s 0) (set vs s 0)) ≡ takenOf maps (memory marks keys vs) s k
+      unfolding takenOf after-drop acted takenNumbers takenSaid
       remove-done q = rw (remove-get, get-ok q)
 
-      pub remove-refused : {e : Refusal} → r ≡ held.Refused e → told (takenNumbers (taken.Refused e)) (memory marks keys vs) ≡ removeOf (memory marks keys vs) s k
-      unfolding removeOf after-drop acted takenNumbers takenSaid
+      pub remove-refused : {e : Refusal} → r ≡ held.Refused e → told (takenNumbers (taken.Refused e)) (memory marks keys vs) ≡ takenOf maps (memory marks keys vs) s k
+      unfolding takenOf after-drop acted takenNumbers takenSaid
       remove-refused q = rw (remove-get, get-no q)
 
     -- where a remove answered r and left other lists
-    module _ {r : Taken} {marks′ keys′ vs′ : List ℕ} (p : told (takenNumbers r) (memory marks′ keys′ vs′) ≡ removeOf (memory marks keys vs) s k) where
+    module _ {r : Taken} {marks′ keys′ vs′ : List ℕ} (p : told (takenNumbers r) (memory marks′ keys′ vs′) ≡ takenOf maps (memory marks keys vs) s k) where
       pub remove-entry-done : {old : ℕ} → r ≡ taken.Removed old → told (takenEntryNumbers (taken-entry.Removed k old)) (memory marks′ keys′ vs′) ≡ removeEntryOf (memory marks keys vs) s k
-      unfolding removeOf removeEntryOf takenEntryNumbers takenEntrySaid
+      unfolding takenOf removeEntryOf takenEntryNumbers takenEntrySaid
       remove-entry-done q = retold (rw (taken-ok (occupied-remove maps (memory marks keys vs) s k) (said p) q)) (left p)
 
       pub remove-entry-refused : {e : Refusal} → r ≡ taken.Refused e → told (takenEntryNumbers (taken-entry.Refused e)) (memory marks′ keys′ vs′) ≡ removeEntryOf (memory marks keys vs) s k
-      unfolding removeOf removeEntryOf takenEntryNumbers takenEntrySaid
+      unfolding takenOf removeEntryOf takenEntryNumbers takenEntrySaid
       remove-entry-refused q = retold (rw (taken-no (occupied-remove maps (memory marks keys vs) s k) (said p) q)) (left p)

@@ -5,20 +5,22 @@ use Rattle.kinds.specs.Told.{Settled, SettledWith}
 use Rattle.kinds.proofs.Settled.{settled, settled-with}
 use Rattle.ints.specs.Memory.{Cells}
 use Rattle.int_handles.specs.Numbers.{heldNumbers, swappedNumbers, takenNumbers, takenEntryNumbers}
-use Rattle.int_handles.specs.Calls.{getOf, setOf, removeOf, removeEntryOf}
+use Rattle.int_handles.specs.Calls.{removeEntryOf}
+use Rattle.kinds.specs.Calls.{heldOf, setOf, takenOf}
+use Rattle.ints.specs.Maps.{maps}
 use Rattle.int_handles.proofs.Equal.{heldNumbers-injective, swappedNumbers-injective, takenNumbers-injective, takenEntryNumbers-injective}
 
 module _ (m : Cells values) where
   -- `Occupied::get`.
-  pub get-settled : (s k : ℕ) → Settled heldNumbers (getOf m s k)
+  pub get-settled : (s k : ℕ) → Settled heldNumbers (heldOf maps m s k)
   get-settled s k = settled heldNumbers-injective
 
   -- `Occupied::set`.
-  pub set-settled : (s k v : ℕ) → SettledWith swappedNumbers (setOf m s k v)
+  pub set-settled : (s k v : ℕ) → SettledWith swappedNumbers (setOf maps m s k v)
   set-settled s k v = settled-with swappedNumbers-injective
 
   -- `Occupied::remove`.
-  pub remove-settled : (s k : ℕ) → SettledWith takenNumbers (removeOf m s k)
+  pub remove-settled : (s k : ℕ) → SettledWith takenNumbers (takenOf maps m s k)
   remove-settled s k = settled-with takenNumbers-injective
 
   -- `Occupied::remove_entry`.

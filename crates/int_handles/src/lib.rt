@@ -7,7 +7,8 @@ ghost use Rattle.ints.specs.Maps.{maps};
 ghost use Rattle.kinds.specs.Told.{told};
 ghost use Rattle.answers.specs.Said.{heldSaid};
 ghost use Rattle.int_handles.specs.Numbers.{heldNumbers, swappedNumbers, takenNumbers, takenEntryNumbers};
-ghost use Rattle.int_handles.specs.Calls.{getOf, setOf, removeOf, removeEntryOf};
+ghost use Rattle.int_handles.specs.Calls.{removeEntryOf};
+ghost use Rattle.kinds.specs.Calls.{heldOf, setOf, takenOf};
 use answers::Refusal;
 
 // A handle of a slot that holds a key.
@@ -57,7 +58,7 @@ fn held_in(mark: u8, held: u64, value: u64, slot: usize, key: u64) -> Held
 
 // What an occupied handle of this slot holds for the key: the value, or a refusal.
 fn grip(marks: &[u8], keys: &[u64], values: &[u64], slot: usize, key: u64) -> Held
-    ensures { λ r. ⌜ heldNumbers r ≡ getOf (memory (now (marks .entry)) (now (keys .entry)) (now (values .entry))) slot key ⌝ }
+    ensures { λ r. ⌜ heldNumbers r ≡ heldOf maps (memory (now (marks .entry)) (now (keys .entry)) (now (values .entry))) slot key ⌝ }
 {
     if ints::map_fits(marks, keys, values) {
         if slot < marks.len() {
@@ -71,7 +72,7 @@ fn grip(marks: &[u8], keys: &[u64], values: &[u64], slot: usize, key: u64) -> He
 impl Occupied {
     // The value in the slot.
     pub fn get(self, marks: &[u8], keys: &[u64], values: &[u64], key: u64) -> Held
-        ensures { λ r. ⌜ heldNumbers r ≡ getOf (memory (now (marks .entry)) (now (keys .entry)) (now (values .entry))) (self .slot) key ⌝ }
+        ensures { λ r. ⌜ heldNumbers r ≡ heldOf maps (memory (now (marks .entry)) (now (keys .entry)) (now (values .entry))) (self .slot) key ⌝ }
     {
         grip(marks, keys, values, self.slot, key)
     }
@@ -85,7 +86,7 @@ impl Occupied {
         key: u64,
         value: u64,
     ) -> Swapped
-        ensures { λ r. ⌜ told (swappedNumbers r) (memory (now (marks .exit)) (now (keys .exit)) (now (values .exit))) ≡ setOf (memory (now (marks .entry)) (now (keys .entry)) (now (values .entry))) (self .slot) key value ⌝ }
+        ensures { λ r. ⌜ told (swappedNumbers r) (memory (now (marks .exit)) (now (keys .exit)) (now (values .exit))) ≡ setOf maps (memory (now (marks .entry)) (now (keys .entry)) (now (values .entry))) (self .slot) key value ⌝ }
     {
         let slot = self.slot;
         let held = grip(marks, keys, values, slot, key);
@@ -100,7 +101,7 @@ impl Occupied {
 
     // Frees the slot; its value is answered.
     pub fn remove(self, marks: &mut [u8], keys: &mut [u64], values: &mut [u64], key: u64) -> Taken
-        ensures { λ r. ⌜ told (takenNumbers r) (memory (now (marks .exit)) (now (keys .exit)) (now (values .exit))) ≡ removeOf (memory (now (marks .entry)) (now (keys .entry)) (now (values .entry))) (self .slot) key ⌝ }
+        ensures { λ r. ⌜ told (takenNumbers r) (memory (now (marks .exit)) (now (keys .exit)) (now (values .exit))) ≡ takenOf maps (memory (now (marks .entry)) (now (keys .entry)) (now (values .entry))) (self .slot) key ⌝ }
     {
         let slot = self.slot;
         let held = grip(marks, keys, values, slot, key);

@@ -22,16 +22,17 @@ use Rattle.ints.proofs.Seeking.{remove-seeking, entry-seeking}
 use Rattle.ints.specs.Maps.{maps}
 use Rattle.ints.proofs.MapSizes.{fit, unfit}
 use Rattle.kinds.specs.Told.{told}
-use Rattle.int_map.specs.Calls.{makeOf, insertOf, removeOf}
+use Rattle.int_map.specs.Calls.{insertOf}
+use Rattle.kinds.specs.Calls.{makeOf, removeOf}
 
 module _ (marks keys vs : List ℕ) where
   module _ {b : Bool} (p : b ≡ fittingMap marks keys vs) where
     -- make and clear
-    pub make-done : b ≡ true → {a d e : List ℕ} → a ≡ replicate (length marks) 0 → d ≡ replicate (length keys) 0 → e ≡ replicate (length vs) 0 → told (outcomeNumbers outcome.Done) (memory a d e) ≡ makeOf (memory marks keys vs)
+    pub make-done : b ≡ true → {a d e : List ℕ} → a ≡ replicate (length marks) 0 → d ≡ replicate (length keys) 0 → e ≡ replicate (length vs) 0 → told (outcomeNumbers outcome.Done) (memory a d e) ≡ makeOf maps (memory marks keys vs)
     unfolding makeOf capacity after-make acted need doneSaid outcomeNumbers
     make-done q x y z = rw (fit marks keys vs p q, x, y, z)
 
-    pub make-not : b ≡ false → told (outcomeNumbers (outcome.Refused Sizes)) (memory marks keys vs) ≡ makeOf (memory marks keys vs)
+    pub make-not : b ≡ false → told (outcomeNumbers (outcome.Refused Sizes)) (memory marks keys vs) ≡ makeOf maps (memory marks keys vs)
     unfolding makeOf capacity after-make acted need doneSaid outcomeNumbers
     make-not q = rw (unfit marks keys vs p q)
 
@@ -62,18 +63,18 @@ module _ (marks keys vs : List ℕ) where
     insert-refused v q = rw (entry-is, q)
 
     -- remove
-    pub remove-hit : {s e : ℕ} → r ≡ Hit s e → told (removedNumbers (removed.Removed (getD vs s 0) s e)) (memory (set marks s 2) (set keys s 0) (set vs s 0)) ≡ removeOf (memory marks keys vs) k
+    pub remove-hit : {s e : ℕ} → r ≡ Hit s e → told (removedNumbers (removed.Removed (getD vs s 0) s e)) (memory (set marks s 2) (set keys s 0) (set vs s 0)) ≡ removeOf maps (memory marks keys vs) k
     unfolding removeOf after-remove removedBy removedSaid removedNumbers
     remove-hit q = rw (remove-is, q)
 
-    pub remove-free : {s e : ℕ} → r ≡ Free s e → told (removedNumbers (removed.Absent e)) (memory marks keys vs) ≡ removeOf (memory marks keys vs) k
+    pub remove-free : {s e : ℕ} → r ≡ Free s e → told (removedNumbers (removed.Absent e)) (memory marks keys vs) ≡ removeOf maps (memory marks keys vs) k
     unfolding removeOf after-remove removedBy removedSaid removedNumbers
     remove-free q = rw (remove-is, q)
 
-    pub remove-full : {e : ℕ} → r ≡ Full e → told (removedNumbers (removed.Absent e)) (memory marks keys vs) ≡ removeOf (memory marks keys vs) k
+    pub remove-full : {e : ℕ} → r ≡ Full e → told (removedNumbers (removed.Absent e)) (memory marks keys vs) ≡ removeOf maps (memory marks keys vs) k
     unfolding removeOf after-remove removedBy removedSaid removedNumbers
     remove-full q = rw (remove-is, q)
 
-    pub remove-refused : {x : Refusal} → r ≡ Refused x → told (removedNumbers (removed.Refused x)) (memory marks keys vs) ≡ removeOf (memory marks keys vs) k
+    pub remove-refused : {x : Refusal} → r ≡ Refused x → told (removedNumbers (removed.Refused x)) (memory marks keys vs) ≡ removeOf maps (memory marks keys vs) k
     unfolding removeOf after-remove removedBy removedSaid removedNumbers
     remove-refused q = rw (remove-is, q)

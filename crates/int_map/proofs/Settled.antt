@@ -6,15 +6,17 @@ use Rattle.kinds.specs.Columns.{values}
 use Rattle.kinds.specs.Told.{SettledWith}
 use Rattle.kinds.proofs.Settled.{settled-with}
 use Rattle.ints.specs.Memory.{Cells}
-use Rattle.int_map.specs.Calls.{makeOf, insertOf, removeOf}
+use Rattle.int_map.specs.Calls.{insertOf}
+use Rattle.kinds.specs.Calls.{makeOf, removeOf}
+use Rattle.ints.specs.Maps.{maps}
 
 module _ (m : Cells values) where
   -- `make`.
-  pub make-settled : SettledWith outcomeNumbers (makeOf m)
+  pub make-settled : SettledWith outcomeNumbers (makeOf maps m)
   make-settled = settled-with outcomeNumbers-injective
 
   -- `clear`.
-  pub clear-settled : SettledWith outcomeNumbers (makeOf m)
+  pub clear-settled : SettledWith outcomeNumbers (makeOf maps m)
   clear-settled = settled-with outcomeNumbers-injective
 
   -- `insert`.
@@ -22,5 +24,5 @@ module _ (m : Cells values) where
   insert-settled k v = settled-with insertedNumbers-injective
 
   -- `remove`.
-  pub remove-settled : (k : ℕ) → SettledWith removedNumbers (removeOf m k)
+  pub remove-settled : (k : ℕ) → SettledWith removedNumbers (removeOf maps m k)
   remove-settled k = settled-with removedNumbers-injective

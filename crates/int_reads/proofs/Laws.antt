@@ -26,29 +26,29 @@ use Rattle.ints.specs.Seeking.{fittingMap, seekingMap}
 use Rattle.ints.proofs.Bridge.{scan-live, scan-bad}
 use Rattle.ints.proofs.Seeking.{get-seeking}
 use Rattle.ints.proofs.MapSizes.{fit, unfit}
-use Rattle.int_reads.specs.Calls.{capacityOf, lenOf, getOf, containsKeyOf}
+use Rattle.kinds.specs.Calls.{capacityOf, lenOf, getOf, containsOf}
 
 module _ (marks keys vs : List ℕ) where
   module _ {b : Bool} (p : b ≡ fittingMap marks keys vs) where
     -- capacity
-    pub capacity-done : b ≡ true → countedNumbers (counted.Count (length marks)) ≡ capacityOf (memory marks keys vs)
+    pub capacity-done : b ≡ true → countedNumbers (counted.Count (length marks)) ≡ capacityOf maps (memory marks keys vs)
     unfolding capacityOf capacity need countSaid countedNumbers
     capacity-done q = rw (fit marks keys vs p q)
 
-    pub capacity-not : b ≡ false → countedNumbers (counted.Refused Sizes) ≡ capacityOf (memory marks keys vs)
+    pub capacity-not : b ≡ false → countedNumbers (counted.Refused Sizes) ≡ capacityOf maps (memory marks keys vs)
     unfolding capacityOf capacity need countSaid countedNumbers
     capacity-not q = rw (unfit marks keys vs p q)
 
     -- len
-    pub len-live : b ≡ true → {r : Scanned} {n : ℕ} → r ≡ scanning marks → r ≡ scanned.Live n → countedNumbers (counted.Count n) ≡ lenOf (memory marks keys vs)
+    pub len-live : b ≡ true → {r : Scanned} {n : ℕ} → r ≡ scanning marks → r ≡ scanned.Live n → countedNumbers (counted.Count n) ≡ lenOf maps (memory marks keys vs)
     unfolding lenOf model.length need countSaid countedNumbers
     len-live q s t = let (h, l, u) = scan-live values (memory marks keys vs) s t in rw (fit marks keys vs p q, h, l)
 
-    pub len-bad : b ≡ true → {r : Scanned} → r ≡ scanning marks → r ≡ scanned.Bad → countedNumbers (counted.Refused Damaged) ≡ lenOf (memory marks keys vs)
+    pub len-bad : b ≡ true → {r : Scanned} → r ≡ scanning marks → r ≡ scanned.Bad → countedNumbers (counted.Refused Damaged) ≡ lenOf maps (memory marks keys vs)
     unfolding lenOf model.length need countSaid countedNumbers
     len-bad q s t = rw (fit marks keys vs p q, scan-bad values (memory marks keys vs) s t)
 
-    pub len-not : b ≡ false → countedNumbers (counted.Refused Sizes) ≡ lenOf (memory marks keys vs)
+    pub len-not : b ≡ false → countedNumbers (counted.Refused Sizes) ≡ lenOf maps (memory marks keys vs)
     unfolding lenOf model.length need countSaid countedNumbers
     len-not q = rw (unfit marks keys vs p q)
 
@@ -58,35 +58,35 @@ module _ (marks keys vs : List ℕ) where
     get-is = rw p (get-seeking values (memory marks keys vs) k)
 
     -- get
-    pub get-hit : {s e : ℕ} → r ≡ Hit s e → gotNumbers (got.Found (getD vs s 0) s e) ≡ getOf (memory marks keys vs) k
+    pub get-hit : {s e : ℕ} → r ≡ Hit s e → gotNumbers (got.Found (getD vs s 0) s e) ≡ getOf maps (memory marks keys vs) k
     unfolding getOf gotSaid gotNumbers
     get-hit q = rw (get-is, q)
 
-    pub get-free : {s e : ℕ} → r ≡ Free s e → gotNumbers (got.Absent e) ≡ getOf (memory marks keys vs) k
+    pub get-free : {s e : ℕ} → r ≡ Free s e → gotNumbers (got.Absent e) ≡ getOf maps (memory marks keys vs) k
     unfolding getOf gotSaid gotNumbers
     get-free q = rw (get-is, q)
 
-    pub get-full : {e : ℕ} → r ≡ Full e → gotNumbers (got.Absent e) ≡ getOf (memory marks keys vs) k
+    pub get-full : {e : ℕ} → r ≡ Full e → gotNumbers (got.Absent e) ≡ getOf maps (memory marks keys vs) k
     unfolding getOf gotSaid gotNumbers
     get-full q = rw (get-is, q)
 
-    pub get-refused : {x : Refusal} → r ≡ Refused x → gotNumbers (got.Refused x) ≡ getOf (memory marks keys vs) k
+    pub get-refused : {x : Refusal} → r ≡ Refused x → gotNumbers (got.Refused x) ≡ getOf maps (memory marks keys vs) k
     unfolding getOf gotSaid gotNumbers
     get-refused q = rw (get-is, q)
 
     -- contains_key
-    pub contains-hit : {s e : ℕ} → r ≡ Hit s e → containedNumbers (contained.Present e) ≡ containsKeyOf (memory marks keys vs) k
-    unfolding containsKeyOf containedSaid containedNumbers
+    pub contains-hit : {s e : ℕ} → r ≡ Hit s e → containedNumbers (contained.Present e) ≡ containsOf maps (memory marks keys vs) k
+    unfolding containsOf containedSaid containedNumbers
     contains-hit q = rw (get-is, q)
 
-    pub contains-free : {s e : ℕ} → r ≡ Free s e → containedNumbers (contained.Absent e) ≡ containsKeyOf (memory marks keys vs) k
-    unfolding containsKeyOf containedSaid containedNumbers
+    pub contains-free : {s e : ℕ} → r ≡ Free s e → containedNumbers (contained.Absent e) ≡ containsOf maps (memory marks keys vs) k
+    unfolding containsOf containedSaid containedNumbers
     contains-free q = rw (get-is, q)
 
-    pub contains-full : {e : ℕ} → r ≡ Full e → containedNumbers (contained.Absent e) ≡ containsKeyOf (memory marks keys vs) k
-    unfolding containsKeyOf containedSaid containedNumbers
+    pub contains-full : {e : ℕ} → r ≡ Full e → containedNumbers (contained.Absent e) ≡ containsOf maps (memory marks keys vs) k
+    unfolding containsOf containedSaid containedNumbers
     contains-full q = rw (get-is, q)
 
-    pub contains-refused : {x : Refusal} → r ≡ Refused x → containedNumbers (contained.Refused x) ≡ containsKeyOf (memory marks keys vs) k
-    unfolding containsKeyOf containedSaid containedNumbers
+    pub contains-refused : {x : Refusal} → r ≡ Refused x → containedNumbers (contained.Refused x) ≡ containsOf maps (memory marks keys vs) k
+    unfolding containsOf containedSaid containedNumbers
     contains-refused q = rw (get-is, q)

@@ -6,29 +6,30 @@ use Rattle.kinds.specs.Columns.{values}
 use Rattle.kinds.specs.Told.{Settled}
 use Rattle.kinds.proofs.Settled.{settled}
 use Rattle.ints.specs.Memory.{Cells}
-use Rattle.int_reads.specs.Calls.{capacityOf, lenOf, isEmptyOf, reserveOf, getOf, containsKeyOf}
+use Rattle.kinds.specs.Calls.{capacityOf, lenOf, isEmptyOf, reserveOf, getOf, containsOf}
+use Rattle.ints.specs.Maps.{maps}
 
 module _ (m : Cells values) where
   -- `capacity`.
-  pub capacity-settled : Settled countedNumbers (capacityOf m)
+  pub capacity-settled : Settled countedNumbers (capacityOf maps m)
   capacity-settled = settled countedNumbers-injective
 
   -- `len`.
-  pub len-settled : Settled countedNumbers (lenOf m)
+  pub len-settled : Settled countedNumbers (lenOf maps m)
   len-settled = settled countedNumbers-injective
 
   -- `is_empty`.
-  pub is-empty-settled : Settled emptinessNumbers (isEmptyOf m)
+  pub is-empty-settled : Settled emptinessNumbers (isEmptyOf maps m)
   is-empty-settled = settled emptinessNumbers-injective
 
   -- `reserve`.
-  pub reserve-settled : (asked : ℕ) → Settled reservedNumbers (reserveOf m asked)
+  pub reserve-settled : (asked : ℕ) → Settled reservedNumbers (reserveOf maps m asked)
   reserve-settled asked = settled reservedNumbers-injective
 
   -- `get`.
-  pub get-settled : (k : ℕ) → Settled gotNumbers (getOf m k)
+  pub get-settled : (k : ℕ) → Settled gotNumbers (getOf maps m k)
   get-settled k = settled gotNumbers-injective
 
   -- `contains_key`.
-  pub contains-key-settled : (k : ℕ) → Settled containedNumbers (containsKeyOf m k)
+  pub contains-key-settled : (k : ℕ) → Settled containedNumbers (containsOf maps m k)
   contains-key-settled k = settled containedNumbers-injective

@@ -1,8 +1,9 @@
-// The calls of an integer map that only read. Each contract is one equation with a definition of specs/Calls.antt.
+// The calls of an integer map that only read. Each contract is one equation with a definition of the theory at this store.
 ghost use mathlib.Core.Path.{_≡_};
 ghost use Rattle.answers.specs.Numbers.{countedNumbers, emptinessNumbers, reservedNumbers, gotNumbers, containedNumbers};
 ghost use Rattle.ints.specs.Memory.{memory};
-ghost use Rattle.int_reads.specs.Calls.{capacityOf, lenOf, isEmptyOf, reserveOf, getOf, containsKeyOf};
+ghost use Rattle.kinds.specs.Calls.{capacityOf, lenOf, isEmptyOf, reserveOf, getOf, containsOf};
+ghost use Rattle.ints.specs.Maps.{maps};
 use answers::Contained;
 use answers::Counted;
 use answers::Emptiness;
@@ -14,7 +15,7 @@ use kinds::Scanned;
 
 // The number of slots.
 pub fn capacity(marks: &[u8], keys: &[u64], values: &[u64]) -> Counted
-    ensures { λ r. ⌜ countedNumbers r ≡ capacityOf (memory (now (marks .entry)) (now (keys .entry)) (now (values .entry))) ⌝ }
+    ensures { λ r. ⌜ countedNumbers r ≡ capacityOf maps (memory (now (marks .entry)) (now (keys .entry)) (now (values .entry))) ⌝ }
 {
     if ints::map_fits(marks, keys, values) {
         return Counted::Count(marks.len());
@@ -24,7 +25,7 @@ pub fn capacity(marks: &[u8], keys: &[u64], values: &[u64]) -> Counted
 
 // The number of keys.
 pub fn len(marks: &[u8], keys: &[u64], values: &[u64]) -> Counted
-    ensures { λ r. ⌜ countedNumbers r ≡ lenOf (memory (now (marks .entry)) (now (keys .entry)) (now (values .entry))) ⌝ }
+    ensures { λ r. ⌜ countedNumbers r ≡ lenOf maps (memory (now (marks .entry)) (now (keys .entry)) (now (values .entry))) ⌝ }
 {
     if ints::map_fits(marks, keys, values) {
         let seen = ints::scan(marks);
@@ -38,7 +39,7 @@ pub fn len(marks: &[u8], keys: &[u64], values: &[u64]) -> Counted
 
 // Whether there is no key.
 pub fn is_empty(marks: &[u8], keys: &[u64], values: &[u64]) -> Emptiness
-    ensures { λ r. ⌜ emptinessNumbers r ≡ isEmptyOf (memory (now (marks .entry)) (now (keys .entry)) (now (values .entry))) ⌝ }
+    ensures { λ r. ⌜ emptinessNumbers r ≡ isEmptyOf maps (memory (now (marks .entry)) (now (keys .entry)) (now (values .entry))) ⌝ }
 {
     let count = len(marks, keys, values);
     match count {
@@ -54,7 +55,7 @@ pub fn is_empty(marks: &[u8], keys: &[u64], values: &[u64]) -> Emptiness
 
 // Whether so many slots are not live.
 pub fn reserve(marks: &[u8], keys: &[u64], values: &[u64], asked: u64) -> Reserved
-    ensures { λ r. ⌜ reservedNumbers r ≡ reserveOf (memory (now (marks .entry)) (now (keys .entry)) (now (values .entry))) asked ⌝ }
+    ensures { λ r. ⌜ reservedNumbers r ≡ reserveOf maps (memory (now (marks .entry)) (now (keys .entry)) (now (values .entry))) asked ⌝ }
 {
     let count = len(marks, keys, values);
     match count {
@@ -70,7 +71,7 @@ pub fn reserve(marks: &[u8], keys: &[u64], values: &[u64], asked: u64) -> Reserv
 
 // The value of a key, with its slot and the examined number.
 pub fn get(marks: &[u8], keys: &[u64], values: &[u64], key: u64) -> Got
-    ensures { λ r. ⌜ gotNumbers r ≡ getOf (memory (now (marks .entry)) (now (keys .entry)) (now (values .entry))) key ⌝ }
+    ensures { λ r. ⌜ gotNumbers r ≡ getOf maps (memory (now (marks .entry)) (now (keys .entry)) (now (values .entry))) key ⌝ }
 {
     let seen = ints::seek(marks, keys, values, key);
     match seen {
@@ -83,7 +84,7 @@ pub fn get(marks: &[u8], keys: &[u64], values: &[u64], key: u64) -> Got
 
 // Whether a key is there, with the examined number.
 pub fn contains_key(marks: &[u8], keys: &[u64], values: &[u64], key: u64) -> Contained
-    ensures { λ r. ⌜ containedNumbers r ≡ containsKeyOf (memory (now (marks .entry)) (now (keys .entry)) (now (values .entry))) key ⌝ }
+    ensures { λ r. ⌜ containedNumbers r ≡ containsOf maps (memory (now (marks .entry)) (now (keys .entry)) (now (values .entry))) key ⌝ }
 {
     let seen = ints::seek(marks, keys, values, key);
     match seen {

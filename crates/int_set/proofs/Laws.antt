@@ -20,16 +20,17 @@ use Rattle.ints.proofs.Bridge.{remove-probing, entry-probing, hit-slot, free-sl
 use Rattle.ints.specs.Sets.{sets, memory}
 use Rattle.ints.proofs.SetSizes.{fit, unfit}
 use Rattle.kinds.specs.Told.{told}
-use Rattle.int_set.specs.Calls.{makeOf, insertOf, removeOf}
+use Rattle.int_set.specs.Calls.{insertOf}
+use Rattle.kinds.specs.Calls.{makeOf, droppedOf}
 
 module _ (marks keys : List ℕ) where
   module _ {b : Bool} (p : b ≡ fitting marks keys) where
     -- make and clear
-    pub make-done : b ≡ true → {a d : List ℕ} → a ≡ replicate (length marks) 0 → d ≡ replicate (length keys) 0 → told (outcomeNumbers outcome.Done) (memory a d) ≡ makeOf (memory marks keys)
+    pub make-done : b ≡ true → {a d : List ℕ} → a ≡ replicate (length marks) 0 → d ≡ replicate (length keys) 0 → told (outcomeNumbers outcome.Done) (memory a d) ≡ makeOf sets (memory marks keys)
     unfolding makeOf capacity after-make acted need doneSaid outcomeNumbers
     make-done q x y = rw (fit marks keys p q, x, y)
 
-    pub make-not : b ≡ false → told (outcomeNumbers (outcome.Refused Sizes)) (memory marks keys) ≡ makeOf (memory marks keys)
+    pub make-not : b ≡ false → told (outcomeNumbers (outcome.Refused Sizes)) (memory marks keys) ≡ makeOf sets (memory marks keys)
     unfolding makeOf capacity after-make acted need doneSaid outcomeNumbers
     make-not q = rw (unfit marks keys p q)
 
@@ -47,6 +48,6 @@ module _ (marks keys : List ℕ) where
       unfolding insertOf after-insert
       insert-says = rw (entry-probing nothing (memory marks keys) k p q refl)
 
-      pub remove-says : told (droppedSaid (seenOf {W = Unit {0}} (λ i. tt) x)) (removedBy sets (memory marks keys) (seenOf (λ i. tt) x)) ≡ removeOf (memory marks keys) k
-      unfolding removeOf after-remove
+      pub remove-says : told (droppedSaid (seenOf {W = Unit {0}} (λ i. tt) x)) (removedBy sets (memory marks keys) (seenOf (λ i. tt) x)) ≡ droppedOf sets (memory marks keys) k
+      unfolding droppedOf after-remove
       remove-says = rw (remove-probing nothing (memory marks keys) k p q refl)

@@ -6,15 +6,17 @@ use Rattle.kinds.specs.Columns.{nothing}
 use Rattle.kinds.specs.Told.{SettledWith}
 use Rattle.kinds.proofs.Settled.{settled-with}
 use Rattle.ints.specs.Memory.{Cells}
-use Rattle.int_set.specs.Calls.{makeOf, insertOf, removeOf}
+use Rattle.int_set.specs.Calls.{insertOf}
+use Rattle.kinds.specs.Calls.{makeOf, droppedOf}
+use Rattle.ints.specs.Sets.{sets}
 
 module _ (m : Cells nothing) where
   -- `make`.
-  pub make-settled : SettledWith outcomeNumbers (makeOf m)
+  pub make-settled : SettledWith outcomeNumbers (makeOf sets m)
   make-settled = settled-with outcomeNumbers-injective
 
   -- `clear`.
-  pub clear-settled : SettledWith outcomeNumbers (makeOf m)
+  pub clear-settled : SettledWith outcomeNumbers (makeOf sets m)
   clear-settled = settled-with outcomeNumbers-injective
 
   -- `insert`.
@@ -22,5 +24,5 @@ module _ (m : Cells nothing) where
   insert-settled k = settled-with addedNumbers-injective
 
   -- `remove`.
-  pub remove-settled : (k : ℕ) → SettledWith droppedNumbers (removeOf m k)
+  pub remove-settled : (k : ℕ) → SettledWith droppedNumbers (droppedOf sets m k)
   remove-settled k = settled-with droppedNumbers-injective

@@ -1,9 +1,10 @@
-// The integer set: u64 keys in lent slot arrays, and the calls that store. Each contract is one equation with a definition of specs/Calls.antt.
+// The integer set: u64 keys in lent slot arrays, and the calls that store. Each contract is one equation with a definition of the theory at this store.
 ghost use mathlib.Core.Path.{_≡_};
 ghost use Rattle.answers.specs.Numbers.{outcomeNumbers, addedNumbers, droppedNumbers};
-ghost use Rattle.ints.specs.Sets.{memory};
+ghost use Rattle.ints.specs.Sets.{sets, memory};
 ghost use Rattle.kinds.specs.Told.{told};
-ghost use Rattle.int_set.specs.Calls.{makeOf, insertOf, removeOf};
+ghost use Rattle.int_set.specs.Calls.{insertOf};
+ghost use Rattle.kinds.specs.Calls.{makeOf, droppedOf};
 use answers::Added;
 use answers::Dropped;
 use answers::Outcome;
@@ -14,7 +15,7 @@ use kinds::Probed;
 
 // Makes an empty set of the lent arrays.
 pub fn make(marks: &mut [u8], keys: &mut [u64]) -> Outcome
-    ensures { λ r. ⌜ told (outcomeNumbers r) (memory (now (marks .exit)) (now (keys .exit))) ≡ makeOf (memory (now (marks .entry)) (now (keys .entry))) ⌝ }
+    ensures { λ r. ⌜ told (outcomeNumbers r) (memory (now (marks .exit)) (now (keys .exit))) ≡ makeOf sets (memory (now (marks .entry)) (now (keys .entry))) ⌝ }
 {
     if ints::fits(marks, keys) {
         clear_bytes(marks);
@@ -26,7 +27,7 @@ pub fn make(marks: &mut [u8], keys: &mut [u64]) -> Outcome
 
 // Empties a set: every slot becomes never used.
 pub fn clear(marks: &mut [u8], keys: &mut [u64]) -> Outcome
-    ensures { λ r. ⌜ told (outcomeNumbers r) (memory (now (marks .exit)) (now (keys .exit))) ≡ makeOf (memory (now (marks .entry)) (now (keys .entry))) ⌝ }
+    ensures { λ r. ⌜ told (outcomeNumbers r) (memory (now (marks .exit)) (now (keys .exit))) ≡ makeOf sets (memory (now (marks .entry)) (now (keys .entry))) ⌝ }
 {
     make(marks, keys)
 }
@@ -50,7 +51,7 @@ pub fn insert(marks: &mut [u8], keys: &mut [u64], key: u64) -> Added
 
 // Takes a key out: its slot is freed, its word becomes 0.
 pub fn remove(marks: &mut [u8], keys: &mut [u64], key: u64) -> Dropped
-    ensures { λ r. ⌜ told (droppedNumbers r) (memory (now (marks .exit)) (now (keys .exit))) ≡ removeOf (memory (now (marks .entry)) (now (keys .entry))) key ⌝ }
+    ensures { λ r. ⌜ told (droppedNumbers r) (memory (now (marks .exit)) (now (keys .exit))) ≡ droppedOf sets (memory (now (marks .entry)) (now (keys .entry))) key ⌝ }
 {
     let seen = ints::probe(marks, keys, key);
     match seen {

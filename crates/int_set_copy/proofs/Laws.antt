@@ -15,26 +15,26 @@ use Rattle.arrays.specs.Whole.{copied}
 use Rattle.arrays.proofs.Below.{copied-whole}
 use Rattle.kinds.specs.Told.{told}
 use Rattle.ints.specs.Memory.{fitting}
-use Rattle.ints.specs.Sets.{memory}
+use Rattle.ints.specs.Sets.{sets, memory}
 use Rattle.ints.proofs.SetSizes.{fit, unfit, same-long}
-use Rattle.int_set_copy.specs.Calls.{copyOf}
+use Rattle.kinds.specs.Calls.{copyOf}
 
 -- copy onto the first two arrays from the others
 module _ (marks keys ms ks : List ℕ) {b : Bool} (p : b ≡ fitting marks keys) where
-  pub copy-unfit : b ≡ false → told (outcomeNumbers (outcome.Refused Sizes)) (memory marks keys) ≡ copyOf (memory marks keys) (memory ms ks)
+  pub copy-unfit : b ≡ false → told (outcomeNumbers (outcome.Refused Sizes)) (memory marks keys) ≡ copyOf sets (memory marks keys) (memory ms ks)
   unfolding copyOf copy after-copy acted need doneSaid outcomeNumbers
   copy-unfit q = rw (unfit marks keys p q)
 
   module _ (q : b ≡ true) {d : Bool} (r : d ≡ fitting ms ks) where
-    pub copy-from-unfit : d ≡ false → told (outcomeNumbers (outcome.Refused Sizes)) (memory marks keys) ≡ copyOf (memory marks keys) (memory ms ks)
+    pub copy-from-unfit : d ≡ false → told (outcomeNumbers (outcome.Refused Sizes)) (memory marks keys) ≡ copyOf sets (memory marks keys) (memory ms ks)
     unfolding copyOf copy after-copy acted need doneSaid outcomeNumbers
     copy-from-unfit s = rw (fit marks keys p q, unfit ms ks r s)
 
-    pub copy-unequal : d ≡ true → (length marks ≡ length ms → ⊥) → told (outcomeNumbers (outcome.Refused Sizes)) (memory marks keys) ≡ copyOf (memory marks keys) (memory ms ks)
+    pub copy-unequal : d ≡ true → (length marks ≡ length ms → ⊥) → told (outcomeNumbers (outcome.Refused Sizes)) (memory marks keys) ≡ copyOf sets (memory marks keys) (memory ms ks)
     unfolding copyOf copy after-copy acted need doneSaid outcomeNumbers
     copy-unequal s h = rw (fit marks keys p q, fit ms ks r s, ne-eqb (length marks) (length ms) h)
 
-    pub copy-done : d ≡ true → length marks ≡ length ms → {x y : List ℕ} → x ≡ copied marks ms → y ≡ copied keys ks → told (outcomeNumbers outcome.Done) (memory x y) ≡ copyOf (memory marks keys) (memory ms ks)
+    pub copy-done : d ≡ true → length marks ≡ length ms → {x y : List ℕ} → x ≡ copied marks ms → y ≡ copied keys ks → told (outcomeNumbers outcome.Done) (memory x y) ≡ copyOf sets (memory marks keys) (memory ms ks)
     unfolding copyOf copy after-copy acted need doneSaid outcomeNumbers
     copy-done s e f g =
         let i = same-long marks keys p q in

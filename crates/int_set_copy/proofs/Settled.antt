@@ -5,9 +5,10 @@ use Rattle.kinds.specs.Columns.{nothing}
 use Rattle.kinds.specs.Told.{SettledWith}
 use Rattle.kinds.proofs.Settled.{settled-with}
 use Rattle.ints.specs.Memory.{Cells}
-use Rattle.int_set_copy.specs.Calls.{copyOf}
+use Rattle.kinds.specs.Calls.{copyOf}
+use Rattle.ints.specs.Sets.{sets}
 
 module _ (m : Cells nothing) where
   -- `copy`.
-  pub copy-settled : (from : Cells nothing) → SettledWith outcomeNumbers (copyOf m from)
+  pub copy-settled : (from : Cells nothing) → SettledWith outcomeNumbers (copyOf sets m from)
   copy-settled from = settled-with outcomeNumbers-injective

@@ -1,9 +1,9 @@
-// The copy of an integer set. Its contract is one equation with a definition of specs/Calls.antt.
+// The copy of an integer set. Its contract is one equation with a definition of the theory at this store.
 ghost use mathlib.Core.Path.{_≡_};
 ghost use Rattle.answers.specs.Numbers.{outcomeNumbers};
 ghost use Rattle.kinds.specs.Told.{told};
-ghost use Rattle.ints.specs.Sets.{memory};
-ghost use Rattle.int_set_copy.specs.Calls.{copyOf};
+ghost use Rattle.ints.specs.Sets.{sets, memory};
+ghost use Rattle.kinds.specs.Calls.{copyOf};
 use answers::Outcome;
 use answers::Refusal;
 use arrays::copy_bytes;
@@ -11,7 +11,7 @@ use arrays::copy_words;
 
 // Makes a set equal to another of equal sizes, in every slot.
 pub fn copy(to_marks: &mut [u8], to_keys: &mut [u64], marks: &[u8], keys: &[u64]) -> Outcome
-    ensures { λ r. ⌜ told (outcomeNumbers r) (memory (now («to_marks» .exit)) (now («to_keys» .exit))) ≡ copyOf (memory (now («to_marks» .entry)) (now («to_keys» .entry))) (memory (now (marks .entry)) (now (keys .entry))) ⌝ }
+    ensures { λ r. ⌜ told (outcomeNumbers r) (memory (now («to_marks» .exit)) (now («to_keys» .exit))) ≡ copyOf sets (memory (now («to_marks» .entry)) (now («to_keys» .entry))) (memory (now (marks .entry)) (now (keys .entry))) ⌝ }
 {
     if ints::fits(to_marks, to_keys) {
         if ints::fits(marks, keys) {

@@ -19,31 +19,32 @@ use Rattle.ints.specs.Memory.{fitting}
 use Rattle.ints.specs.Probing.{probing}
 use Rattle.ints.specs.Scanning.{scanning}
 use Rattle.ints.proofs.Bridge.{get-probing, scan-live, scan-bad}
-use Rattle.ints.specs.Sets.{memory}
+use Rattle.ints.specs.Sets.{sets, memory}
 use Rattle.ints.proofs.SetSizes.{fit, unfit}
-use Rattle.int_set_reads.specs.Calls.{capacityOf, lenOf, getOf, containsOf}
+use Rattle.int_set_reads.specs.Calls.{getOf}
+use Rattle.kinds.specs.Calls.{capacityOf, lenOf, containsOf}
 
 module _ (marks keys : List ℕ) where
   module _ {b : Bool} (p : b ≡ fitting marks keys) where
     -- capacity
-    pub capacity-done : b ≡ true → countedNumbers (counted.Count (length marks)) ≡ capacityOf (memory marks keys)
+    pub capacity-done : b ≡ true → countedNumbers (counted.Count (length marks)) ≡ capacityOf sets (memory marks keys)
     unfolding capacityOf capacity need countSaid countedNumbers
     capacity-done q = rw (fit marks keys p q)
 
-    pub capacity-not : b ≡ false → countedNumbers (counted.Refused Sizes) ≡ capacityOf (memory marks keys)
+    pub capacity-not : b ≡ false → countedNumbers (counted.Refused Sizes) ≡ capacityOf sets (memory marks keys)
     unfolding capacityOf capacity need countSaid countedNumbers
     capacity-not q = rw (unfit marks keys p q)
 
     -- len
-    pub len-live : b ≡ true → {r : Scanned} {n : ℕ} → r ≡ scanning marks → r ≡ scanned.Live n → countedNumbers (counted.Count n) ≡ lenOf (memory marks keys)
+    pub len-live : b ≡ true → {r : Scanned} {n : ℕ} → r ≡ scanning marks → r ≡ scanned.Live n → countedNumbers (counted.Count n) ≡ lenOf sets (memory marks keys)
     unfolding lenOf model.length need countSaid countedNumbers
     len-live q s t = let (h, l, u) = scan-live nothing (memory marks keys) s t in rw (fit marks keys p q, h, l)
 
-    pub len-bad : b ≡ true → {r : Scanned} → r ≡ scanning marks → r ≡ scanned.Bad → countedNumbers (counted.Refused Damaged) ≡ lenOf (memory marks keys)
+    pub len-bad : b ≡ true → {r : Scanned} → r ≡ scanning marks → r ≡ scanned.Bad → countedNumbers (counted.Refused Damaged) ≡ lenOf sets (memory marks keys)
     unfolding lenOf model.length need countSaid countedNumbers
     len-bad q s t = rw (fit marks keys p q, scan-bad nothing (memory marks keys) s t)
 
-    pub len-not : b ≡ false → countedNumbers (counted.Refused Sizes) ≡ lenOf (memory marks keys)
+    pub len-not : b ≡ false → countedNumbers (counted.Refused Sizes) ≡ lenOf sets (memory marks keys)
     unfolding lenOf model.length need countSaid countedNumbers
     len-not q = rw (unfit marks keys p q)
 
@@ -53,6 +54,6 @@ module _ (marks keys : List ℕ) where
     unfolding getOf
     get-says = rw (get-probing nothing (memory marks keys) k p q refl)
 
-    pub contains-says : containedSaid (seenOf {W = Unit {0}} (λ i. tt) x) ≡ containsOf (memory marks keys) k
+    pub contains-says : containedSaid (seenOf {W = Unit {0}} (λ i. tt) x) ≡ containsOf sets (memory marks keys) k
     unfolding containsOf
     contains-says = rw (get-probing nothing (memory marks keys) k p q refl)

@@ -6,23 +6,25 @@ use Rattle.kinds.specs.Columns.{nothing}
 use Rattle.kinds.specs.Told.{Settled}
 use Rattle.kinds.proofs.Settled.{settled}
 use Rattle.ints.specs.Memory.{Cells}
-use Rattle.int_set_reads.specs.Calls.{capacityOf, lenOf, isEmptyOf, reserveOf, getOf, containsOf}
+use Rattle.int_set_reads.specs.Calls.{getOf}
+use Rattle.kinds.specs.Calls.{capacityOf, lenOf, isEmptyOf, reserveOf, containsOf}
+use Rattle.ints.specs.Sets.{sets}
 
 module _ (m : Cells nothing) where
   -- `capacity`.
-  pub capacity-settled : Settled countedNumbers (capacityOf m)
+  pub capacity-settled : Settled countedNumbers (capacityOf sets m)
   capacity-settled = settled countedNumbers-injective
 
   -- `len`.
-  pub len-settled : Settled countedNumbers (lenOf m)
+  pub len-settled : Settled countedNumbers (lenOf sets m)
   len-settled = settled countedNumbers-injective
 
   -- `is_empty`.
-  pub is-empty-settled : Settled emptinessNumbers (isEmptyOf m)
+  pub is-empty-settled : Settled emptinessNumbers (isEmptyOf sets m)
   is-empty-settled = settled emptinessNumbers-injective
 
   -- `reserve`.
-  pub reserve-settled : (asked : ℕ) → Settled reservedNumbers (reserveOf m asked)
+  pub reserve-settled : (asked : ℕ) → Settled reservedNumbers (reserveOf sets m asked)
   reserve-settled asked = settled reservedNumbers-injective
 
   -- `get`.
@@ -30,5 +32,5 @@ module _ (m : Cells nothing) where
   get-settled k = settled memberNumbers-injective
 
   -- `contains`.
-  pub contains-settled : (k : ℕ) → Settled containedNumbers (containsOf m k)
+  pub contains-settled : (k : ℕ) → Settled containedNumbers (containsOf sets m k)
   contains-settled k = settled containedNumbers-injective

@@ -27,7 +27,8 @@ use Rattle.ints.specs.Seeking.{fittingMap}
 use Rattle.ints.proofs.Bridge.{scan-bad, scan-live}
 use Rattle.ints.specs.Maps.{maps}
 use Rattle.kinds.specs.Told.{told}
-use Rattle.int_union.specs.Calls.{unionOf, planOf, lacksOf, allStored}
+use Rattle.int_union.specs.Calls.{planOf, lacksOf, allStored}
+use Rattle.kinds.specs.Calls.{unionOf}
 use Rattle.ints.proofs.MapSizes.{same-long}
 
 -- keys take no arena bytes
@@ -108,11 +109,11 @@ module _ (l r : Cells values) {a : Outcome} (p : outcomeNumbers a ≡ planOf l r
           (λ f. clash (cc (rw f at e)))
 
   -- and then all pairs go in
-  pub union-done : {m : Cells values} → a ≡ outcome.Done → m ≡ allStored l r (length (r .marks)) → told (outcomeNumbers outcome.Done) m ≡ unionOf l r
+  pub union-done : {m : Cells values} → a ≡ outcome.Done → m ≡ allStored l r (length (r .marks)) → told (outcomeNumbers outcome.Done) m ≡ unionOf maps l r
   unfolding planOf unionOf after-union allStored acted doneSaid outcomeNumbers
   union-done q e = rw (plan-ok (union maps l r) p q .1) (ap (λ m. told (outcomeNumbers outcome.Done) m) e)
 
   -- a refusal leaves all
-  pub union-refused : {e : Refusal} → a ≡ outcome.Refused e → told (outcomeNumbers (outcome.Refused e)) l ≡ unionOf l r
+  pub union-refused : {e : Refusal} → a ≡ outcome.Refused e → told (outcomeNumbers (outcome.Refused e)) l ≡ unionOf maps l r
   unfolding planOf unionOf after-union acted doneSaid outcomeNumbers
   union-refused q = rw (plan-no (union maps l r) p q)

@@ -5,9 +5,10 @@ use Rattle.kinds.specs.Columns.{values}
 use Rattle.kinds.specs.Told.{SettledWith}
 use Rattle.kinds.proofs.Settled.{settled-with}
 use Rattle.ints.specs.Memory.{Cells}
-use Rattle.int_union.specs.Calls.{unionOf}
+use Rattle.kinds.specs.Calls.{unionOf}
+use Rattle.ints.specs.Maps.{maps}
 
 module _ (m : Cells values) where
   -- `union_prefer_right`.
-  pub union-prefer-right-settled : (right : Cells values) → SettledWith outcomeNumbers (unionOf m right)
+  pub union-prefer-right-settled : (right : Cells values) → SettledWith outcomeNumbers (unionOf maps m right)
   union-prefer-right-settled right = settled-with outcomeNumbers-injective

@@ -1,19 +1,14 @@
--- What the union of integer maps tells and leaves, and the parts that its code takes one after the other: the theory's calls, at this store.
+-- The parts that the union of integer maps takes one after the other: the theory's definitions, at this store.
 use Prim.Native.Nat.{ℕ}
 use mathlib.Core.Bool.{cond}
 use Rattle.model.specs.Slots.{weigh, total, pairOf, pairs}
-use Rattle.model.specs.Calls.{storeAll, lacking, union, after-union}
+use Rattle.model.specs.Calls.{storeAll, lacking, union}
 use Rattle.answers.specs.declared.Numbers.{Numbers}
 use Rattle.answers.specs.Said.{doneSaid}
 use Rattle.kinds.specs.Columns.{values}
 use Rattle.kinds.specs.Marks.{cell}
 use Rattle.ints.specs.Memory.{Cells}
 use Rattle.ints.specs.Maps.{maps}
-use Rattle.kinds.specs.Told.{Told, told}
-
--- union_prefer_right: the right's pairs go into the left, all or none.
-unfoldable pub unionOf : Cells values → Cells values → Told (Cells values)
-unionOf l r = told (doneSaid (union maps l r)) (after-union maps l r)
 
 -- Its tests alone.
 unfoldable pub planOf : Cells values → Cells values → Numbers

@@ -8,7 +8,8 @@ ghost use Rattle.ints.specs.Memory.{memory};
 ghost use Rattle.ints.specs.Seeking.{fittingMap};
 ghost use Rattle.ints.specs.Maps.{maps};
 ghost use Rattle.kinds.specs.Told.{told};
-ghost use Rattle.int_union.specs.Calls.{unionOf, planOf, lackOf, lacksOf, slotStored, allStored};
+ghost use Rattle.int_union.specs.Calls.{planOf, lackOf, lacksOf, slotStored, allStored};
+ghost use Rattle.kinds.specs.Calls.{unionOf};
 use answers::Outcome;
 use answers::Refusal;
 use kinds::Probed;
@@ -173,7 +174,7 @@ pub fn union_prefer_right(
     right_keys: &[u64],
     right_values: &[u64],
 ) -> Outcome
-    ensures { λ r. ⌜ told (outcomeNumbers r) (memory (now (marks .exit)) (now (keys .exit)) (now (values .exit))) ≡ unionOf (memory (now (marks .entry)) (now (keys .entry)) (now (values .entry))) (memory (now («right_marks» .entry)) (now («right_keys» .entry)) (now («right_values» .entry))) ⌝ }
+    ensures { λ r. ⌜ told (outcomeNumbers r) (memory (now (marks .exit)) (now (keys .exit)) (now (values .exit))) ≡ unionOf maps (memory (now (marks .entry)) (now (keys .entry)) (now (values .entry))) (memory (now («right_marks» .entry)) (now («right_keys» .entry)) (now («right_values» .entry))) ⌝ }
 {
     let outcome = plan(marks, keys, values, right_marks, right_keys, right_values);
     match outcome {

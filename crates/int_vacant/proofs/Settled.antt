@@ -5,10 +5,11 @@ use Rattle.kinds.specs.Told.{SettledWith}
 use Rattle.kinds.proofs.Settled.{settled-with}
 use Rattle.ints.specs.Memory.{Cells}
 use Rattle.int_vacant.specs.Numbers.{standingNumbers}
-use Rattle.int_vacant.specs.Calls.{insertOf}
+use Rattle.kinds.specs.Calls.{standingOf}
+use Rattle.ints.specs.Maps.{maps}
 use Rattle.int_vacant.proofs.Equal.{standingNumbers-injective}
 
 module _ (m : Cells values) where
   -- `Vacant::insert`.
-  pub insert-settled : (s k v : ℕ) → SettledWith standingNumbers (insertOf m s k v)
+  pub insert-settled : (s k v : ℕ) → SettledWith standingNumbers (standingOf maps m s k v)
   insert-settled s k v = settled-with standingNumbers-injective

@@ -32,7 +32,8 @@ use Rattle.int_vacant.specs.declared.Standing.the-variants as standing
 use Rattle.ints.specs.Maps.{maps}
 use Rattle.kinds.specs.Told.{told}
 use Rattle.int_vacant.specs.Numbers.{standingNumbers}
-use Rattle.int_vacant.specs.Calls.{freshOf, insertOf}
+use Rattle.int_vacant.specs.Calls.{freshOf}
+use Rattle.kinds.specs.Calls.{standingOf}
 
 -- What a vacant handle of slot s is worth where the probing ended so.
 abbrev goodOf : ℕ → Probed → Or (Unit {0})
@@ -128,10 +129,10 @@ module _ (marks keys vs : List ℕ) (s k : ℕ) {a : Outcome} (p : outcomeNumber
       let (e, f) = good-free s (seeking values (memory marks keys vs) k) (sym (vacancy-seeking (memory marks keys vs) s k) ∙ good q) in
       free-inside marks keys vs k refl f
 
-  pub insert-done : (v : ℕ) → a ≡ outcome.Done → told (standingNumbers (standing.Now (record { slot = s }) v)) (memory (set marks s 1) (set keys s k) (set vs s v)) ≡ insertOf (memory marks keys vs) s k v
-  unfolding insertOf vacant-insert after-fill give acted standingNumbers standingSaid
+  pub insert-done : (v : ℕ) → a ≡ outcome.Done → told (standingNumbers (standing.Now (record { slot = s }) v)) (memory (set marks s 1) (set keys s k) (set vs s v)) ≡ standingOf maps (memory marks keys vs) s k v
+  unfolding standingOf vacant-insert after-fill give acted standingNumbers standingSaid
   insert-done v q = rw (good q)
 
-  pub insert-refused : {e : Refusal} (v : ℕ) → a ≡ outcome.Refused e → told (standingNumbers (standing.Refused e)) (memory marks keys vs) ≡ insertOf (memory marks keys vs) s k v
-  unfolding insertOf vacant-insert after-fill give acted standingNumbers standingSaid
+  pub insert-refused : {e : Refusal} (v : ℕ) → a ≡ outcome.Refused e → told (standingNumbers (standing.Refused e)) (memory marks keys vs) ≡ standingOf maps (memory marks keys vs) s k v
+  unfolding standingOf vacant-insert after-fill give acted standingNumbers standingSaid
   insert-refused v q = rw (bad q)

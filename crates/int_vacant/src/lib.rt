@@ -4,7 +4,9 @@ ghost use Rattle.answers.specs.Numbers.{outcomeNumbers};
 ghost use Rattle.kinds.specs.Told.{told};
 ghost use Rattle.ints.specs.Memory.{memory};
 ghost use Rattle.int_vacant.specs.Numbers.{standingNumbers};
-ghost use Rattle.int_vacant.specs.Calls.{freshOf, insertOf};
+ghost use Rattle.int_vacant.specs.Calls.{freshOf};
+ghost use Rattle.kinds.specs.Calls.{standingOf};
+ghost use Rattle.ints.specs.Maps.{maps};
 use answers::Outcome;
 use answers::Refusal;
 use int_handles::Occupied;
@@ -49,7 +51,7 @@ impl Vacant {
         key: u64,
         value: u64,
     ) -> Standing
-        ensures { λ r. ⌜ told (standingNumbers r) (memory (now (marks .exit)) (now (keys .exit)) (now (values .exit))) ≡ insertOf (memory (now (marks .entry)) (now (keys .entry)) (now (values .entry))) (self .slot) key value ⌝ }
+        ensures { λ r. ⌜ told (standingNumbers r) (memory (now (marks .exit)) (now (keys .exit)) (now (values .exit))) ≡ standingOf maps (memory (now (marks .entry)) (now (keys .entry)) (now (values .entry))) (self .slot) key value ⌝ }
     {
         let slot = self.slot;
         let worth = fresh_at(marks, keys, values, slot, key);

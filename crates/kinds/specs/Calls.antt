@@ -1,4 +1,4 @@
--- What each call tells and leaves, at any store: the definitions that the contracts of byte maps and byte sets cite.
+-- What each call tells and leaves, at any store: the definitions that the contracts of all kinds cite.
 use Prim.Native.Nat.{ℕ}
 use Rattle.model.specs.Store.{Store}
 use Rattle.model.specs.Calls.{Handle, on-occupied, on-vacant, get, entry, remove, after-remove, capacity, after-make, length, reserve, copy, after-copy, union, after-union, occupied-get, after-set, occupied-remove, after-drop, vacant-insert, after-fill, or-insert, after-or-insert, insert-entry, after-insert-entry}

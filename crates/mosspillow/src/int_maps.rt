@@ -3,10 +3,9 @@ ghost use mathlib.Core.Path.{_≡_};
 ghost use Rattle.kinds.specs.Told.{told};
 ghost use Rattle.lent.specs.Moved.{movedOn};
 ghost use Rattle.ints.specs.Memory.{memory};
-ghost use Rattle.int_map.specs.Calls.{makeOf, insertOf, removeOf};
-ghost use Rattle.int_reads.specs.Calls.{capacityOf, lenOf, isEmptyOf, reserveOf, getOf, containsKeyOf};
-ghost use Rattle.int_copy.specs.Calls.{copyOf};
-ghost use Rattle.int_union.specs.Calls.{unionOf};
+ghost use Rattle.int_map.specs.Calls.{insertOf};
+ghost use Rattle.kinds.specs.Calls.{makeOf, removeOf, capacityOf, lenOf, isEmptyOf, reserveOf, getOf, containsOf, copyOf, unionOf};
+ghost use Rattle.ints.specs.Maps.{maps};
 ghost use Rattle.int_walk.specs.Calls.{stepOf};
 use answers::Numbers;
 use answers::contained_numbers;
@@ -27,7 +26,7 @@ pub extern "C" fn moss_int_map_make(
     keys: &mut [u64],
     values: &mut [u64],
 ) -> Numbers
-    ensures { λ r. ⌜ told r (memory (now (marks .exit)) (now (keys .exit)) (now (values .exit))) ≡ makeOf (memory (now (marks .entry)) (now (keys .entry)) (now (values .entry))) ⌝ }
+    ensures { λ r. ⌜ told r (memory (now (marks .exit)) (now (keys .exit)) (now (values .exit))) ≡ makeOf maps (memory (now (marks .entry)) (now (keys .entry)) (now (values .entry))) ⌝ }
 {
     outcome_numbers(int_map::make(marks, keys, values))
 }
@@ -39,7 +38,7 @@ pub extern "C" fn moss_int_map_clear(
     keys: &mut [u64],
     values: &mut [u64],
 ) -> Numbers
-    ensures { λ r. ⌜ told r (memory (now (marks .exit)) (now (keys .exit)) (now (values .exit))) ≡ makeOf (memory (now (marks .entry)) (now (keys .entry)) (now (values .entry))) ⌝ }
+    ensures { λ r. ⌜ told r (memory (now (marks .exit)) (now (keys .exit)) (now (values .exit))) ≡ makeOf maps (memory (now (marks .entry)) (now (keys .entry)) (now (values .entry))) ⌝ }
 {
     outcome_numbers(int_map::clear(marks, keys, values))
 }
@@ -47,7 +46,7 @@ pub extern "C" fn moss_int_map_clear(
 // The number of slots.
 #[no_mangle]
 pub extern "C" fn moss_int_map_capacity(marks: &[u8], keys: &[u64], values: &[u64]) -> Numbers
-    ensures { λ r. ⌜ r ≡ capacityOf (memory (now (marks .entry)) (now (keys .entry)) (now (values .entry))) ⌝ }
+    ensures { λ r. ⌜ r ≡ capacityOf maps (memory (now (marks .entry)) (now (keys .entry)) (now (values .entry))) ⌝ }
 {
     counted_numbers(int_reads::capacity(marks, keys, values))
 }
@@ -55,7 +54,7 @@ pub extern "C" fn moss_int_map_capacity(marks: &[u8], keys: &[u64], values: &[u6
 // The number of keys.
 #[no_mangle]
 pub extern "C" fn moss_int_map_len(marks: &[u8], keys: &[u64], values: &[u64]) -> Numbers
-    ensures { λ r. ⌜ r ≡ lenOf (memory (now (marks .entry)) (now (keys .entry)) (now (values .entry))) ⌝ }
+    ensures { λ r. ⌜ r ≡ lenOf maps (memory (now (marks .entry)) (now (keys .entry)) (now (values .entry))) ⌝ }
 {
     counted_numbers(int_reads::len(marks, keys, values))
 }
@@ -63,7 +62,7 @@ pub extern "C" fn moss_int_map_len(marks: &[u8], keys: &[u64], values: &[u64]) -
 // Whether there is no key.
 #[no_mangle]
 pub extern "C" fn moss_int_map_is_empty(marks: &[u8], keys: &[u64], values: &[u64]) -> Numbers
-    ensures { λ r. ⌜ r ≡ isEmptyOf (memory (now (marks .entry)) (now (keys .entry)) (now (values .entry))) ⌝ }
+    ensures { λ r. ⌜ r ≡ isEmptyOf maps (memory (now (marks .entry)) (now (keys .entry)) (now (values .entry))) ⌝ }
 {
     emptiness_numbers(int_reads::is_empty(marks, keys, values))
 }
@@ -76,7 +75,7 @@ pub extern "C" fn moss_int_map_reserve(
     values: &[u64],
     asked: u64,
 ) -> Numbers
-    ensures { λ r. ⌜ r ≡ reserveOf (memory (now (marks .entry)) (now (keys .entry)) (now (values .entry))) asked ⌝ }
+    ensures { λ r. ⌜ r ≡ reserveOf maps (memory (now (marks .entry)) (now (keys .entry)) (now (values .entry))) asked ⌝ }
 {
     reserved_numbers(int_reads::reserve(marks, keys, values, asked))
 }
@@ -84,7 +83,7 @@ pub extern "C" fn moss_int_map_reserve(
 // The value of a key.
 #[no_mangle]
 pub extern "C" fn moss_int_map_get(marks: &[u8], keys: &[u64], values: &[u64], key: u64) -> Numbers
-    ensures { λ r. ⌜ r ≡ getOf (memory (now (marks .entry)) (now (keys .entry)) (now (values .entry))) key ⌝ }
+    ensures { λ r. ⌜ r ≡ getOf maps (memory (now (marks .entry)) (now (keys .entry)) (now (values .entry))) key ⌝ }
 {
     got_numbers(int_reads::get(marks, keys, values, key))
 }
@@ -97,7 +96,7 @@ pub extern "C" fn moss_int_map_contains_key(
     values: &[u64],
     key: u64,
 ) -> Numbers
-    ensures { λ r. ⌜ r ≡ containsKeyOf (memory (now (marks .entry)) (now (keys .entry)) (now (values .entry))) key ⌝ }
+    ensures { λ r. ⌜ r ≡ containsOf maps (memory (now (marks .entry)) (now (keys .entry)) (now (values .entry))) key ⌝ }
 {
     contained_numbers(int_reads::contains_key(marks, keys, values, key))
 }
@@ -124,7 +123,7 @@ pub extern "C" fn moss_int_map_remove(
     values: &mut [u64],
     key: u64,
 ) -> Numbers
-    ensures { λ r. ⌜ told r (memory (now (marks .exit)) (now (keys .exit)) (now (values .exit))) ≡ removeOf (memory (now (marks .entry)) (now (keys .entry)) (now (values .entry))) key ⌝ }
+    ensures { λ r. ⌜ told r (memory (now (marks .exit)) (now (keys .exit)) (now (values .exit))) ≡ removeOf maps (memory (now (marks .entry)) (now (keys .entry)) (now (values .entry))) key ⌝ }
 {
     removed_numbers(int_map::remove(marks, keys, values, key))
 }
@@ -139,7 +138,7 @@ pub extern "C" fn moss_int_map_copy(
     keys: &[u64],
     values: &[u64],
 ) -> Numbers
-    ensures { λ r. ⌜ told r (memory (now («to_marks» .exit)) (now («to_keys» .exit)) (now («to_values» .exit))) ≡ copyOf (memory (now («to_marks» .entry)) (now («to_keys» .entry)) (now («to_values» .entry))) (memory (now (marks .entry)) (now (keys .entry)) (now (values .entry))) ⌝ }
+    ensures { λ r. ⌜ told r (memory (now («to_marks» .exit)) (now («to_keys» .exit)) (now («to_values» .exit))) ≡ copyOf maps (memory (now («to_marks» .entry)) (now («to_keys» .entry)) (now («to_values» .entry))) (memory (now (marks .entry)) (now (keys .entry)) (now (values .entry))) ⌝ }
 {
     outcome_numbers(int_copy::copy(to_marks, to_keys, to_values, marks, keys, values))
 }
@@ -154,7 +153,7 @@ pub extern "C" fn moss_int_map_union_prefer_right(
     right_keys: &[u64],
     right_values: &[u64],
 ) -> Numbers
-    ensures { λ r. ⌜ told r (memory (now (marks .exit)) (now (keys .exit)) (now (values .exit))) ≡ unionOf (memory (now (marks .entry)) (now (keys .entry)) (now (values .entry))) (memory (now («right_marks» .entry)) (now («right_keys» .entry)) (now («right_values» .entry))) ⌝ }
+    ensures { λ r. ⌜ told r (memory (now (marks .exit)) (now (keys .exit)) (now (values .exit))) ≡ unionOf maps (memory (now (marks .entry)) (now (keys .entry)) (now (values .entry))) (memory (now («right_marks» .entry)) (now («right_keys» .entry)) (now («right_values» .entry))) ⌝ }
 {
     outcome_numbers(int_union::union_prefer_right(
         marks,

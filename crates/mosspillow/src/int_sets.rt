@@ -2,10 +2,10 @@
 ghost use mathlib.Core.Path.{_≡_};
 ghost use Rattle.kinds.specs.Told.{told};
 ghost use Rattle.lent.specs.Moved.{movedOn};
-ghost use Rattle.ints.specs.Sets.{memory};
-ghost use Rattle.int_set.specs.Calls.{makeOf, insertOf, removeOf};
-ghost use Rattle.int_set_reads.specs.Calls.{capacityOf, lenOf, isEmptyOf, reserveOf, getOf, containsOf};
-ghost use Rattle.int_set_copy.specs.Calls.{copyOf};
+ghost use Rattle.ints.specs.Sets.{sets, memory};
+ghost use Rattle.int_set.specs.Calls.{insertOf};
+ghost use Rattle.kinds.specs.Calls.{makeOf, droppedOf, capacityOf, lenOf, isEmptyOf, reserveOf, containsOf, copyOf};
+ghost use Rattle.int_set_reads.specs.Calls.{getOf};
 ghost use Rattle.int_set_walk.specs.Calls.{stepOf};
 use answers::Numbers;
 use answers::added_numbers;
@@ -22,7 +22,7 @@ use numbers::int_sets::step_numbers;
 // Makes an empty set of the lent arrays.
 #[no_mangle]
 pub extern "C" fn moss_int_set_make(marks: &mut [u8], keys: &mut [u64]) -> Numbers
-    ensures { λ r. ⌜ told r (memory (now (marks .exit)) (now (keys .exit))) ≡ makeOf (memory (now (marks .entry)) (now (keys .entry))) ⌝ }
+    ensures { λ r. ⌜ told r (memory (now (marks .exit)) (now (keys .exit))) ≡ makeOf sets (memory (now (marks .entry)) (now (keys .entry))) ⌝ }
 {
     outcome_numbers(int_set::make(marks, keys))
 }
@@ -30,7 +30,7 @@ pub extern "C" fn moss_int_set_make(marks: &mut [u8], keys: &mut [u64]) -> Numbe
 // Empties a set.
 #[no_mangle]
 pub extern "C" fn moss_int_set_clear(marks: &mut [u8], keys: &mut [u64]) -> Numbers
-    ensures { λ r. ⌜ told r (memory (now (marks .exit)) (now (keys .exit))) ≡ makeOf (memory (now (marks .entry)) (now (keys .entry))) ⌝ }
+    ensures { λ r. ⌜ told r (memory (now (marks .exit)) (now (keys .exit))) ≡ makeOf sets (memory (now (marks .entry)) (now (keys .entry))) ⌝ }
 {
     outcome_numbers(int_set::clear(marks, keys))
 }
@@ -38,7 +38,7 @@ pub extern "C" fn moss_int_set_clear(marks: &mut [u8], keys: &mut [u64]) -> Numb
 // The number of slots.
 #[no_mangle]
 pub extern "C" fn moss_int_set_capacity(marks: &[u8], keys: &[u64]) -> Numbers
-    ensures { λ r. ⌜ r ≡ capacityOf (memory (now (marks .entry)) (now (keys .entry))) ⌝ }
+    ensures { λ r. ⌜ r ≡ capacityOf sets (memory (now (marks .entry)) (now (keys .entry))) ⌝ }
 {
     counted_numbers(int_set_reads::capacity(marks, keys))
 }
@@ -46,7 +46,7 @@ pub extern "C" fn moss_int_set_capacity(marks: &[u8], keys: &[u64]) -> Numbers
 // The number of keys.
 #[no_mangle]
 pub extern "C" fn moss_int_set_len(marks: &[u8], keys: &[u64]) -> Numbers
-    ensures { λ r. ⌜ r ≡ lenOf (memory (now (marks .entry)) (now (keys .entry))) ⌝ }
+    ensures { λ r. ⌜ r ≡ lenOf sets (memory (now (marks .entry)) (now (keys .entry))) ⌝ }
 {
     counted_numbers(int_set_reads::len(marks, keys))
 }
@@ -54,7 +54,7 @@ pub extern "C" fn moss_int_set_len(marks: &[u8], keys: &[u64]) -> Numbers
 // Whether there is no key.
 #[no_mangle]
 pub extern "C" fn moss_int_set_is_empty(marks: &[u8], keys: &[u64]) -> Numbers
-    ensures { λ r. ⌜ r ≡ isEmptyOf (memory (now (marks .entry)) (now (keys .entry))) ⌝ }
+    ensures { λ r. ⌜ r ≡ isEmptyOf sets (memory (now (marks .entry)) (now (keys .entry))) ⌝ }
 {
     emptiness_numbers(int_set_reads::is_empty(marks, keys))
 }
@@ -62,7 +62,7 @@ pub extern "C" fn moss_int_set_is_empty(marks: &[u8], keys: &[u64]) -> Numbers
 // Whether so many slots are not live.
 #[no_mangle]
 pub extern "C" fn moss_int_set_reserve(marks: &[u8], keys: &[u64], asked: u64) -> Numbers
-    ensures { λ r. ⌜ r ≡ reserveOf (memory (now (marks .entry)) (now (keys .entry))) asked ⌝ }
+    ensures { λ r. ⌜ r ≡ reserveOf sets (memory (now (marks .entry)) (now (keys .entry))) asked ⌝ }
 {
     reserved_numbers(int_set_reads::reserve(marks, keys, asked))
 }
@@ -78,7 +78,7 @@ pub extern "C" fn moss_int_set_get(marks: &[u8], keys: &[u64], key: u64) -> Numb
 // Whether a key is there.
 #[no_mangle]
 pub extern "C" fn moss_int_set_contains(marks: &[u8], keys: &[u64], key: u64) -> Numbers
-    ensures { λ r. ⌜ r ≡ containsOf (memory (now (marks .entry)) (now (keys .entry))) key ⌝ }
+    ensures { λ r. ⌜ r ≡ containsOf sets (memory (now (marks .entry)) (now (keys .entry))) key ⌝ }
 {
     contained_numbers(int_set_reads::contains(marks, keys, key))
 }
@@ -94,7 +94,7 @@ pub extern "C" fn moss_int_set_insert(marks: &mut [u8], keys: &mut [u64], key: u
 // Takes a key out.
 #[no_mangle]
 pub extern "C" fn moss_int_set_remove(marks: &mut [u8], keys: &mut [u64], key: u64) -> Numbers
-    ensures { λ r. ⌜ told r (memory (now (marks .exit)) (now (keys .exit))) ≡ removeOf (memory (now (marks .entry)) (now (keys .entry))) key ⌝ }
+    ensures { λ r. ⌜ told r (memory (now (marks .exit)) (now (keys .exit))) ≡ droppedOf sets (memory (now (marks .entry)) (now (keys .entry))) key ⌝ }
 {
     dropped_numbers(int_set::remove(marks, keys, key))
 }
@@ -107,7 +107,7 @@ pub extern "C" fn moss_int_set_copy(
     marks: &[u8],
     keys: &[u64],
 ) -> Numbers
-    ensures { λ r. ⌜ told r (memory (now («to_marks» .exit)) (now («to_keys» .exit))) ≡ copyOf (memory (now («to_marks» .entry)) (now («to_keys» .entry))) (memory (now (marks .entry)) (now (keys .entry))) ⌝ }
+    ensures { λ r. ⌜ told r (memory (now («to_marks» .exit)) (now («to_keys» .exit))) ≡ copyOf sets (memory (now («to_marks» .entry)) (now («to_keys» .entry))) (memory (now (marks .entry)) (now (keys .entry))) ⌝ }
 {
     outcome_numbers(int_set_copy::copy(to_marks, to_keys, marks, keys))
 }

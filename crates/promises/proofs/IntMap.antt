@@ -28,15 +28,10 @@ use Rattle.ints.proofs.Lawful.{cells-lawful}
 use Rattle.ints.proofs.Places.{cells-steady, cells-apart}
 use Rattle.ints.specs.Maps.{maps}
 use Rattle.answers.specs.Said.{pairHanded}
-use Rattle.int_map.specs.Calls.{makeOf, insertOf, removeOf}
-use Rattle.int_reads.specs.Calls.{capacityOf, lenOf, isEmptyOf, reserveOf, getOf, containsKeyOf}
-use Rattle.int_copy.specs.Calls.{copyOf}
-use Rattle.int_union.specs.Calls.{unionOf}
+use Rattle.int_map.specs.Calls.{insertOf}
+use Rattle.kinds.specs.Calls.{makeOf, removeOf, capacityOf, lenOf, isEmptyOf, reserveOf, getOf, containsOf, copyOf, unionOf, setOf, entryOf, orInsertOf, insertEntryOf, heldOf, takenOf, standingOf}
 use Rattle.int_walk.specs.Calls.{stepOf}
-use Rattle.int_handles.specs.Calls.{setOf, removeEntryOf}
-use Rattle.int_handles.specs.Calls as handles
-use Rattle.int_vacant.specs.Calls as vacants
-use Rattle.int_entry.specs.Calls.{entryOf, orInsertOf, insertEntryOf}
+use Rattle.int_handles.specs.Calls.{removeEntryOf}
 use Rattle.lent.specs.Moved.{movedOn}
 use Rattle.lent.proofs.Moved.{moved-said}
 use Rattle.promises.specs.IntMap.{Call, make, clear, capacity, len, is-empty, reserve, get, contains-key, remove, entry, copy, union-prefer-right, insert, occupied-get, occupied-remove, occupied-remove-entry, step, occupied-set, vacant-insert, or-insert, insert-entry, told-by, meant, published}
@@ -47,7 +42,7 @@ maps-lawful = cells-lawful values values-orderly
 
 -- Each published call tells the refusal of the theory's call.
 number-told : (w : World maps) (x : ℕ) (c : Call) → told-by w x c .numbers .refusal ≡ refusal (answer maps w x (meant w x c))
-unfolding told-by meant answer tells left leaves makeOf capacityOf lenOf isEmptyOf reserveOf getOf containsKeyOf insertOf removeOf copyOf unionOf stepOf entryOf setOf removeEntryOf orInsertOf insertEntryOf handles.getOf handles.removeOf vacants.insertOf refusal
+unfolding told-by meant answer tells left leaves makeOf capacityOf lenOf isEmptyOf reserveOf getOf containsOf insertOf removeOf copyOf unionOf stepOf entryOf setOf removeEntryOf orInsertOf insertEntryOf heldOf takenOf standingOf refusal
 number-told w x make = doneSaid-refusal _ ∙ sym (reported (λ n. fine) (λ a. refl) _)
 number-told w x clear = doneSaid-refusal _ ∙ sym (reported (λ n. fine) (λ a. refl) _)
 number-told w x capacity = countSaid-refusal _ ∙ sym (reported number (λ a. refl) _)
@@ -72,7 +67,7 @@ number-told w x (insert-entry e k v) = standingSaid-refusal _ _ ∙ sym (reporte
 
 -- And leaves its memory.
 memory-told : (w : World maps) (x : ℕ) (c : Call) → told-by w x c .memory ≡ left maps w x (meant w x c)
-unfolding told-by meant answer tells left leaves makeOf capacityOf lenOf isEmptyOf reserveOf getOf containsKeyOf insertOf removeOf copyOf unionOf stepOf entryOf setOf removeEntryOf orInsertOf insertEntryOf handles.getOf handles.removeOf vacants.insertOf
+unfolding told-by meant answer tells left leaves makeOf capacityOf lenOf isEmptyOf reserveOf getOf containsOf insertOf removeOf copyOf unionOf stepOf entryOf setOf removeEntryOf orInsertOf insertEntryOf heldOf takenOf standingOf
 memory-told w x make = refl
 memory-told w x clear = refl
 memory-told w x capacity = refl

@@ -28,9 +28,9 @@ use Rattle.ints.proofs.Lawful.{cells-lawful}
 use Rattle.ints.proofs.Places.{cells-steady, cells-apart}
 use Rattle.ints.specs.Sets.{sets}
 use Rattle.answers.specs.Said.{keyHanded}
-use Rattle.int_set.specs.Calls.{makeOf, insertOf, removeOf}
-use Rattle.int_set_reads.specs.Calls.{capacityOf, lenOf, isEmptyOf, reserveOf, getOf, containsOf}
-use Rattle.int_set_copy.specs.Calls.{copyOf}
+use Rattle.int_set.specs.Calls.{insertOf}
+use Rattle.kinds.specs.Calls.{makeOf, droppedOf, capacityOf, lenOf, isEmptyOf, reserveOf, containsOf, copyOf}
+use Rattle.int_set_reads.specs.Calls.{getOf}
 use Rattle.int_set_walk.specs.Calls.{stepOf}
 use Rattle.lent.specs.Moved.{movedOn}
 use Rattle.lent.proofs.Moved.{moved-said}
@@ -42,7 +42,7 @@ sets-lawful = cells-lawful nothing nothing-orderly
 
 -- Each published call tells the refusal of the theory's call.
 number-told : (w : World sets) (x : ℕ) (c : Call) → told-by w x c .numbers .refusal ≡ refusal (answer sets w x (meant w x c))
-unfolding told-by meant answer tells left leaves makeOf capacityOf lenOf isEmptyOf reserveOf getOf containsOf insertOf removeOf copyOf stepOf refusal
+unfolding told-by meant answer tells left leaves makeOf capacityOf lenOf isEmptyOf reserveOf getOf containsOf insertOf droppedOf copyOf stepOf refusal
 number-told w x make = doneSaid-refusal _ ∙ sym (reported (λ n. fine) (λ a. refl) _)
 number-told w x clear = doneSaid-refusal _ ∙ sym (reported (λ n. fine) (λ a. refl) _)
 number-told w x capacity = countSaid-refusal _ ∙ sym (reported number (λ a. refl) _)
@@ -58,7 +58,7 @@ number-told w x (step at budget) = stepSaid-refusal keyHanded (λ k v p e. refl)
 
 -- And leaves its memory.
 memory-told : (w : World sets) (x : ℕ) (c : Call) → told-by w x c .memory ≡ left sets w x (meant w x c)
-unfolding told-by meant answer tells left leaves makeOf capacityOf lenOf isEmptyOf reserveOf getOf containsOf insertOf removeOf copyOf stepOf
+unfolding told-by meant answer tells left leaves makeOf capacityOf lenOf isEmptyOf reserveOf getOf containsOf insertOf droppedOf copyOf stepOf
 memory-told w x make = refl
 memory-told w x clear = refl
 memory-told w x capacity = refl

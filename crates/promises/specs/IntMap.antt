@@ -8,16 +8,12 @@ use Rattle.kinds.specs.Told.{Told, told}
 use Rattle.kinds.specs.Published.{Published}
 use Rattle.ints.specs.Memory.{Cells}
 use Rattle.ints.specs.Maps.{maps}
-use Rattle.int_map.specs.Calls.{makeOf, insertOf, removeOf}
-use Rattle.int_reads.specs.Calls.{capacityOf, lenOf, isEmptyOf, reserveOf, getOf, containsKeyOf}
-use Rattle.int_copy.specs.Calls.{copyOf}
-use Rattle.int_union.specs.Calls.{unionOf}
+use Rattle.int_map.specs.Calls.{insertOf}
+use Rattle.kinds.specs.Calls.{makeOf, removeOf, capacityOf, lenOf, isEmptyOf, reserveOf, getOf, containsOf, copyOf, unionOf, setOf, entryOf, orInsertOf, insertEntryOf, heldOf, takenOf, standingOf}
 use Rattle.int_walk.specs.Calls.{stepOf}
-use Rattle.int_handles.specs.Calls.{setOf, removeEntryOf}
-use Rattle.int_handles.specs.Calls as handles
-use Rattle.int_vacant.specs.Calls as vacants
+use Rattle.int_handles.specs.Calls.{removeEntryOf}
 use Rattle.int_entry.specs.declared.Entered.{Entered}
-use Rattle.int_entry.specs.Calls.{entryOf, handleOf, orInsertOf, insertEntryOf}
+use Rattle.int_entry.specs.Calls.{handleOf}
 
 -- One constructor for each published call: keys, values, slots and budgets are numbers, another table is its number.
 pub data Call : Type 0 where
@@ -29,27 +25,27 @@ pub data Call : Type 0 where
 
 -- What a call on the table x tells and leaves: the definition that its contract cites.
 unfoldable pub told-by : World maps → ℕ → Call → Told (Cells values)
-told-by w x make = makeOf (w x)
-told-by w x clear = makeOf (w x)
-told-by w x capacity = told (capacityOf (w x)) (w x)
-told-by w x len = told (lenOf (w x)) (w x)
-told-by w x is-empty = told (isEmptyOf (w x)) (w x)
-told-by w x (reserve n) = told (reserveOf (w x) n) (w x)
-told-by w x (get k) = told (getOf (w x) k) (w x)
-told-by w x (contains-key k) = told (containsKeyOf (w x) k) (w x)
-told-by w x (remove k) = removeOf (w x) k
-told-by w x (entry k) = told (entryOf (w x) k) (w x)
-told-by w x (copy y) = copyOf (w x) (w y)
-told-by w x (union-prefer-right y) = unionOf (w x) (w y)
+told-by w x make = makeOf maps (w x)
+told-by w x clear = makeOf maps (w x)
+told-by w x capacity = told (capacityOf maps (w x)) (w x)
+told-by w x len = told (lenOf maps (w x)) (w x)
+told-by w x is-empty = told (isEmptyOf maps (w x)) (w x)
+told-by w x (reserve n) = told (reserveOf maps (w x) n) (w x)
+told-by w x (get k) = told (getOf maps (w x) k) (w x)
+told-by w x (contains-key k) = told (containsOf maps (w x) k) (w x)
+told-by w x (remove k) = removeOf maps (w x) k
+told-by w x (entry k) = told (entryOf maps (w x) k) (w x)
+told-by w x (copy y) = copyOf maps (w x) (w y)
+told-by w x (union-prefer-right y) = unionOf maps (w x) (w y)
 told-by w x (insert k v) = insertOf (w x) k v
-told-by w x (occupied-get s k) = told (handles.getOf (w x) s k) (w x)
-told-by w x (occupied-remove s k) = handles.removeOf (w x) s k
+told-by w x (occupied-get s k) = told (heldOf maps (w x) s k) (w x)
+told-by w x (occupied-remove s k) = takenOf maps (w x) s k
 told-by w x (occupied-remove-entry s k) = removeEntryOf (w x) s k
 told-by w x (step at budget) = told (stepOf (w x) at budget) (w x)
-told-by w x (occupied-set s k v) = setOf (w x) s k v
-told-by w x (vacant-insert s k v) = vacants.insertOf (w x) s k v
-told-by w x (or-insert e k v) = orInsertOf (w x) (handleOf (length (w x .marks)) e) k v
-told-by w x (insert-entry e k v) = insertEntryOf (w x) (handleOf (length (w x .marks)) e) k v
+told-by w x (occupied-set s k v) = setOf maps (w x) s k v
+told-by w x (vacant-insert s k v) = standingOf maps (w x) s k v
+told-by w x (or-insert e k v) = orInsertOf maps (w x) (handleOf (length (w x .marks)) e) k v
+told-by w x (insert-entry e k v) = insertEntryOf maps (w x) (handleOf (length (w x .marks)) e) k v
 
 -- The call of the theory that it is.
 unfoldable pub meant : World maps → ℕ → Call → model.Call ℕ ℕ

@@ -7,9 +7,9 @@ use Rattle.kinds.specs.Told.{Told, told}
 use Rattle.kinds.specs.Published.{Published}
 use Rattle.ints.specs.Memory.{Cells}
 use Rattle.ints.specs.Sets.{sets}
-use Rattle.int_set.specs.Calls.{makeOf, insertOf, removeOf}
-use Rattle.int_set_reads.specs.Calls.{capacityOf, lenOf, isEmptyOf, reserveOf, getOf, containsOf}
-use Rattle.int_set_copy.specs.Calls.{copyOf}
+use Rattle.int_set.specs.Calls.{insertOf}
+use Rattle.kinds.specs.Calls.{makeOf, droppedOf, capacityOf, lenOf, isEmptyOf, reserveOf, containsOf, copyOf}
+use Rattle.int_set_reads.specs.Calls.{getOf}
 use Rattle.int_set_walk.specs.Calls.{stepOf}
 
 -- One constructor for each published call: keys and budgets are numbers, another table is its number.
@@ -20,17 +20,17 @@ pub data Call : Type 0 where
 
 -- What a call on the table x tells and leaves: the definition that its contract cites.
 unfoldable pub told-by : World sets → ℕ → Call → Told (Cells nothing)
-told-by w x make = makeOf (w x)
-told-by w x clear = makeOf (w x)
-told-by w x capacity = told (capacityOf (w x)) (w x)
-told-by w x len = told (lenOf (w x)) (w x)
-told-by w x is-empty = told (isEmptyOf (w x)) (w x)
-told-by w x (reserve n) = told (reserveOf (w x) n) (w x)
+told-by w x make = makeOf sets (w x)
+told-by w x clear = makeOf sets (w x)
+told-by w x capacity = told (capacityOf sets (w x)) (w x)
+told-by w x len = told (lenOf sets (w x)) (w x)
+told-by w x is-empty = told (isEmptyOf sets (w x)) (w x)
+told-by w x (reserve n) = told (reserveOf sets (w x) n) (w x)
 told-by w x (get k) = told (getOf (w x) k) (w x)
-told-by w x (contains k) = told (containsOf (w x) k) (w x)
+told-by w x (contains k) = told (containsOf sets (w x) k) (w x)
 told-by w x (insert k) = insertOf (w x) k
-told-by w x (remove k) = removeOf (w x) k
-told-by w x (copy y) = copyOf (w x) (w y)
+told-by w x (remove k) = droppedOf sets (w x) k
+told-by w x (copy y) = copyOf sets (w x) (w y)
 told-by w x (step at budget) = told (stepOf (w x) at budget) (w x)
 
 -- The call of the theory that it is.

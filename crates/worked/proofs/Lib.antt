@@ -1,1 +1,2 @@
+-- That every row of the worked numbers holds.
 pub mod Worked

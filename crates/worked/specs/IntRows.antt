@@ -5,8 +5,9 @@ use Rattle.answers.specs.declared.Numbers.{Numbers}
 use Rattle.kinds.specs.Columns.{values}
 use Rattle.ints.specs.Memory.{Cells, memory}
 use Rattle.kinds.specs.Told.{Told, told}
-use Rattle.int_map.specs.Calls.{insertOf, removeOf}
-use Rattle.int_reads.specs.Calls.{getOf, reserveOf}
+use Rattle.int_map.specs.Calls.{insertOf}
+use Rattle.kinds.specs.Calls.{removeOf, getOf, reserveOf}
+use Rattle.ints.specs.Maps.{maps}
 use Rattle.int_walk.specs.Calls.{stepOf}
 use Rattle.worked.specs.Rows.{Row}
 
@@ -19,9 +20,9 @@ pub data Order : Type 0 where
 -- What a call tells and leaves, by the definition that its contract cites.
 unfoldable pub done : Cells values → Order → Told (Cells values)
 done m (inserts k v) = insertOf m k v
-done m (removes k) = removeOf m k
-done m (gets k) = told (getOf m k) m
-done m (reserves n) = told (reserveOf m n) m
+done m (removes k) = removeOf maps m k
+done m (gets k) = told (getOf maps m k) m
+done m (reserves n) = told (reserveOf maps m n) m
 done m (steps a b) = told (stepOf m a b) m
 
 -- The made table of 4 slots.

@@ -1,6 +1,7 @@
 -- `moss_int_map_insert_entry` meets its contract: its answer is that of the callee on the handle that the case number and the slot are.
 use Rattle.mosspillow.proofs.Handing.{handed-by}
-use Rattle.int_entry.specs.Calls.{insertEntryOf}
+use Rattle.kinds.specs.Calls.{insertEntryOf}
+use Rattle.ints.specs.Maps.{maps}
 use borrow.Author.Needs.{needs}
 use Rattle.mosspillow.proofs.int_entries.moss_int_map_insert_entry.Statement.{statement}
 use Rattle.mosspillow.proofs.int_entries.moss_int_map_insert_entry.Tie as tie
@@ -24,7 +25,7 @@ same-length-3 : tie.Need-same-length-3
 same-length-3 c = search needs
 
 returns : tie.Need-returns
-returns c = handed-by insertEntryOf (c .standing-numbers .ensures) (c .before .before .before .before .before .before .before .insert-entry .ensures) (c .before .before .before .before .before .before .before .before .before .before .before .entered .ensures _)
+returns c = handed-by (insertEntryOf maps) (c .standing-numbers .ensures) (c .before .before .before .before .before .before .before .insert-entry .ensures) (c .before .before .before .before .before .before .before .before .before .before .before .entered .ensures _)
 
 pub moss-int-map-insert-entry-spec : {M : Type 1} → statement M
 moss-int-map-insert-entry-spec =

@@ -1,2 +1,0 @@
--- The definition of copies of integer maps.
-pub mod Calls

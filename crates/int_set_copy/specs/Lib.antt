@@ -1,2 +1,0 @@
--- The definition of copies of integer sets.
-pub mod Calls
