@@ -5,9 +5,11 @@ use mathlib.Core.List.{List}
 use mathlib.Core.Path.{_≡_}
 use native.Mathlib.Omega.{arith}
 use borrow.Author.Tests.{eq-eqb, ne-eqb}
+use lib.Dec.{eqb}
 use lib.ListN.{length}
 use Rattle.model.specs.Calls.{need, acted, copy, after-copy}
 use Rattle.model.specs.Store.{Store}
+use Rattle.model.proofs.Cases.{by-bool}
 use Rattle.answers.specs.declared.Refusal.the-variants.{Sizes}
 use Rattle.answers.specs.declared.Outcome.the-variants as outcome
 use Rattle.answers.specs.Numbers.{outcomeNumbers}
@@ -23,7 +25,17 @@ use Rattle.byte_reads.specs.Seeking.{sizedOf}
 use Rattle.byte_reads.proofs.Counting.{sized-as}
 use Rattle.byte_reads.proofs.Laws.{same-long}
 
--- copy from n onto m, by its tests in order
+-- arenas of other sizes are refused 1, whatever the other tests say
+pub copy-arena : {K W : Type 0} (M : Store K W) (m n : M .State) → (M .bytes m ≡ M .bytes n → ⊥) → told (outcomeNumbers (outcome.Refused Sizes)) m ≡ copyOf M m n
+unfolding copyOf copy after-copy acted need doneSaid outcomeNumbers
+copy-arena M m n h =
+    by-bool (M .sized m)
+    (λ a. by-bool (M .sized n)
+    (λ b. by-bool (eqb (M .size m) (M .size n)) (λ c. rw (a, b, c, ne-eqb (M .bytes m) (M .bytes n) h)) (λ c. rw (a, b, c)))
+    (λ b. rw (a, b)))
+    (λ a. rw a)
+
+-- copy from n onto m, by its other tests in order
 module _ {K W : Type 0} (M : Store K W) (m n : M .State) {b : Bool} (p : b ≡ sizedOf M m) where
   pub copy-unfit : b ≡ false → told (outcomeNumbers (outcome.Refused Sizes)) m ≡ copyOf M m n
   unfolding copyOf copy after-copy acted need doneSaid outcomeNumbers
@@ -38,10 +50,6 @@ module _ {K W : Type 0} (M : Store K W) (m n : M .State) {b : Bool} (p : b ≡ s
       pub copy-slots : (M .size m ≡ M .size n → ⊥) → told (outcomeNumbers (outcome.Refused Sizes)) m ≡ copyOf M m n
       unfolding copyOf copy after-copy acted need doneSaid outcomeNumbers
       copy-slots h = rw (sized-as M m p q, sized-as M n r s, ne-eqb (M .size m) (M .size n) h)
-
-      pub copy-arena : M .size m ≡ M .size n → (M .bytes m ≡ M .bytes n → ⊥) → told (outcomeNumbers (outcome.Refused Sizes)) m ≡ copyOf M m n
-      unfolding copyOf copy after-copy acted need doneSaid outcomeNumbers
-      copy-arena e h = rw (sized-as M m p q, sized-as M n r s, eq-eqb (M .size m) (M .size n) e, ne-eqb (M .bytes m) (M .bytes n) h)
 
       copied-done : M .size m ≡ M .size n → M .bytes m ≡ M .bytes n → {x : M .State} → x ≡ n → told (outcomeNumbers outcome.Done) x ≡ copyOf M m n
       unfolding copyOf copy after-copy acted need doneSaid outcomeNumbers

@@ -26,17 +26,18 @@ pub fn copy(
 ) -> Outcome
     ensures { λ r. ⌜ told (outcomeNumbers r) (mapMemory (now («to_marks» .exit)) (now («to_offsets» .exit)) (now («to_lengths» .exit)) (now («to_values» .exit)) (now («to_arena» .exit))) ≡ copyOf maps (mapMemory (now («to_marks» .entry)) (now («to_offsets» .entry)) (now («to_lengths» .entry)) (now («to_values» .entry)) (now («to_arena» .entry))) (mapMemory (now (marks .entry)) (now (offsets .entry)) (now (lengths .entry)) (now (values .entry)) (now (arena .entry))) ⌝ }
 {
+    if to_arena.len() != arena.len() {
+        return Outcome::Refused(Refusal::Sizes);
+    }
     if map_fits(to_marks, to_offsets, to_lengths, to_values, to_arena) {
         if map_fits(marks, offsets, lengths, values, arena) {
             if to_marks.len() == marks.len() {
-                if to_arena.len() == arena.len() {
-                    copy_bytes(to_marks, marks);
-                    copy_shorts(to_offsets, offsets);
-                    copy_bytes(to_lengths, lengths);
-                    copy_words(to_values, values);
-                    copy_bytes(to_arena, arena);
-                    return Outcome::Done;
-                }
+                copy_bytes(to_marks, marks);
+                copy_shorts(to_offsets, offsets);
+                copy_bytes(to_lengths, lengths);
+                copy_words(to_values, values);
+                copy_bytes(to_arena, arena);
+                return Outcome::Done;
             }
         }
     }

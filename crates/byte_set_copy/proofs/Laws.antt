@@ -36,10 +36,6 @@ module _ (s t : Spans) {b : Bool} (p : b ≡ fitting s) where
       copy-slots-unequal n = rw (fit s p q, fit t r h, ne-eqb (length (s .marks)) (length (t .marks)) n)
 
       module _ (e : length (s .marks) ≡ length (t .marks)) where
-        pub copy-bytes-unequal : (length (s .arena) ≡ length (t .arena) → ⊥) → told (outcomeNumbers (outcome.Refused Sizes)) (setOf s) ≡ copyOf sets (setOf s) (setOf t)
-        unfolding copyOf copy after-copy acted need doneSaid outcomeNumbers
-        copy-bytes-unequal n = rw (fit s p q, fit t r h, eq-eqb (length (s .marks)) (length (t .marks)) e, ne-eqb (length (s .arena)) (length (t .arena)) n)
-
         pub copy-done : length (s .arena) ≡ length (t .arena) → {x y z w : List ℕ} → x ≡ copied (s .marks) (t .marks) → y ≡ copied (s .offsets) (t .offsets) → z ≡ copied (s .lengths) (t .lengths) → w ≡ copied (s .arena) (t .arena) → told (outcomeNumbers outcome.Done) (setOf (spansOf x y z w)) ≡ copyOf sets (setOf s) (setOf t)
         unfolding copyOf copy after-copy acted need doneSaid outcomeNumbers
         copy-done a f g i j =

@@ -23,16 +23,17 @@ pub fn copy(
 ) -> Outcome
     ensures { λ r. ⌜ told (outcomeNumbers r) (setMemory (now («to_marks» .exit)) (now («to_offsets» .exit)) (now («to_lengths» .exit)) (now («to_arena» .exit))) ≡ copyOf sets (setMemory (now («to_marks» .entry)) (now («to_offsets» .entry)) (now («to_lengths» .entry)) (now («to_arena» .entry))) (setMemory (now (marks .entry)) (now (offsets .entry)) (now (lengths .entry)) (now (arena .entry))) ⌝ }
 {
+    if to_arena.len() != arena.len() {
+        return Outcome::Refused(Refusal::Sizes);
+    }
     if fits(to_marks, to_offsets, to_lengths, to_arena) {
         if fits(marks, offsets, lengths, arena) {
             if to_marks.len() == marks.len() {
-                if to_arena.len() == arena.len() {
-                    copy_bytes(to_marks, marks);
-                    copy_shorts(to_offsets, offsets);
-                    copy_bytes(to_lengths, lengths);
-                    copy_bytes(to_arena, arena);
-                    return Outcome::Done;
-                }
+                copy_bytes(to_marks, marks);
+                copy_shorts(to_offsets, offsets);
+                copy_bytes(to_lengths, lengths);
+                copy_bytes(to_arena, arena);
+                return Outcome::Done;
             }
         }
     }
