@@ -1,9 +1,11 @@
 /* Mosspillow for C and C++: maps and sets over lent slot arrays.
  * Link with libmosspillow.a (x86-64), which `bash tools/library` builds.
  *
- * A call takes each lent array as a pointer and a count of elements. The arrays lent to one call must not overlap, those of the two
- * tables of union and copy included. A null pointer is allowed where the count is 0. Any contents are allowed: a call answers, or
- * refuses and stores nothing. The second half of this header has each table as a struct, its storage, and the same calls on it. */
+ * A call takes each lent array as a pointer and a count of elements. The counts must be true and the pointers valid for them. The
+ * arrays lent to one call must not overlap, those of the two tables of union and copy and the key's bytes included. A null pointer is
+ * allowed where the count is 0. Any contents are allowed: a call answers, or refuses and stores nothing. That a key is there, or is
+ * not, is said of sound tables: those that were made, or copied from such, and changed by these calls alone (docs/MANUAL.md). The
+ * second half of this header has each table as a struct, its storage, and the same calls on it. */
 #ifndef MOSSPILLOW_H
 #define MOSSPILLOW_H
 
@@ -76,7 +78,8 @@ uint64_t moss_digest(const uint8_t *bytes, size_t length);
 uint64_t moss_home(const uint8_t *bytes, size_t length, uint64_t slots);
 
 /* The integer map: marks, u64 keys and u64 values. A handle is the slot that an entry answers, with the key given again; where
- * `which` is asked it is the answer's case, and a number that is neither MOSS_OCCUPIED nor MOSS_VACANT is no good handle. */
+ * `which` is asked it is the answer's case. A number that is neither MOSS_OCCUPIED nor MOSS_VACANT counts as a vacant handle that is
+ * never good. */
 
 /* Makes an empty map of the lent arrays: every mark and word becomes 0. MOSS_DONE. Refuses 1. */
 moss_answer moss_int_map_make(uint8_t *MOSS_RESTRICT marks, size_t marks_count, uint64_t *MOSS_RESTRICT keys, size_t keys_count,
@@ -90,11 +93,11 @@ moss_answer moss_int_map_clear(uint8_t *MOSS_RESTRICT marks, size_t marks_count,
 moss_answer moss_int_map_capacity(const uint8_t *MOSS_RESTRICT marks, size_t marks_count, const uint64_t *MOSS_RESTRICT keys, size_t keys_count,
     const uint64_t *MOSS_RESTRICT values, size_t values_count);
 
-/* The number of keys. MOSS_COUNT with value. Refuses 1, 5. */
+/* The number of live slots, which on a sound table is that of its keys. MOSS_COUNT with value. Refuses 1, 5. */
 moss_answer moss_int_map_len(const uint8_t *MOSS_RESTRICT marks, size_t marks_count, const uint64_t *MOSS_RESTRICT keys, size_t keys_count,
     const uint64_t *MOSS_RESTRICT values, size_t values_count);
 
-/* Whether there is no key. MOSS_EMPTY or MOSS_HOLDS. Refuses 1, 5. */
+/* Whether no slot is live. MOSS_EMPTY or MOSS_HOLDS. Refuses 1, 5. */
 moss_answer moss_int_map_is_empty(const uint8_t *MOSS_RESTRICT marks, size_t marks_count, const uint64_t *MOSS_RESTRICT keys, size_t keys_count,
     const uint64_t *MOSS_RESTRICT values, size_t values_count);
 
@@ -186,10 +189,10 @@ moss_answer moss_int_set_clear(uint8_t *MOSS_RESTRICT marks, size_t marks_count,
 /* The number of slots. MOSS_COUNT with value. Refuses 1. */
 moss_answer moss_int_set_capacity(const uint8_t *MOSS_RESTRICT marks, size_t marks_count, const uint64_t *MOSS_RESTRICT keys, size_t keys_count);
 
-/* The number of keys. MOSS_COUNT with value. Refuses 1, 5. */
+/* The number of live slots, which on a sound table is that of its keys. MOSS_COUNT with value. Refuses 1, 5. */
 moss_answer moss_int_set_len(const uint8_t *MOSS_RESTRICT marks, size_t marks_count, const uint64_t *MOSS_RESTRICT keys, size_t keys_count);
 
-/* Whether there is no key. MOSS_EMPTY or MOSS_HOLDS. Refuses 1, 5. */
+/* Whether no slot is live. MOSS_EMPTY or MOSS_HOLDS. Refuses 1, 5. */
 moss_answer moss_int_set_is_empty(const uint8_t *MOSS_RESTRICT marks, size_t marks_count, const uint64_t *MOSS_RESTRICT keys, size_t keys_count);
 
 /* Whether `asked` slots or more are not live. MOSS_ROOM. Refuses 1, 5, 7. */
@@ -245,12 +248,12 @@ moss_answer moss_byte_map_capacity(const uint8_t *MOSS_RESTRICT marks, size_t ma
     const uint16_t *MOSS_RESTRICT offsets, size_t offsets_count, const uint8_t *MOSS_RESTRICT lengths, size_t lengths_count,
     const uint64_t *MOSS_RESTRICT values, size_t values_count, const uint8_t *MOSS_RESTRICT arena, size_t arena_count);
 
-/* The number of keys. MOSS_COUNT with value. Refuses 1, 5. */
+/* The number of live slots, which on a sound table is that of its keys. MOSS_COUNT with value. Refuses 1, 5. */
 moss_answer moss_byte_map_len(const uint8_t *MOSS_RESTRICT marks, size_t marks_count, const uint16_t *MOSS_RESTRICT offsets, size_t offsets_count,
     const uint8_t *MOSS_RESTRICT lengths, size_t lengths_count, const uint64_t *MOSS_RESTRICT values, size_t values_count,
     const uint8_t *MOSS_RESTRICT arena, size_t arena_count);
 
-/* Whether there is no key. MOSS_EMPTY or MOSS_HOLDS. Refuses 1, 5. */
+/* Whether no slot is live. MOSS_EMPTY or MOSS_HOLDS. Refuses 1, 5. */
 moss_answer moss_byte_map_is_empty(const uint8_t *MOSS_RESTRICT marks, size_t marks_count,
     const uint16_t *MOSS_RESTRICT offsets, size_t offsets_count, const uint8_t *MOSS_RESTRICT lengths, size_t lengths_count,
     const uint64_t *MOSS_RESTRICT values, size_t values_count, const uint8_t *MOSS_RESTRICT arena, size_t arena_count);
@@ -376,11 +379,11 @@ moss_answer moss_byte_set_capacity(const uint8_t *MOSS_RESTRICT marks, size_t ma
     const uint16_t *MOSS_RESTRICT offsets, size_t offsets_count, const uint8_t *MOSS_RESTRICT lengths, size_t lengths_count,
     const uint8_t *MOSS_RESTRICT arena, size_t arena_count);
 
-/* The number of keys. MOSS_COUNT with value. Refuses 1, 5. */
+/* The number of live slots, which on a sound table is that of its keys. MOSS_COUNT with value. Refuses 1, 5. */
 moss_answer moss_byte_set_len(const uint8_t *MOSS_RESTRICT marks, size_t marks_count, const uint16_t *MOSS_RESTRICT offsets, size_t offsets_count,
     const uint8_t *MOSS_RESTRICT lengths, size_t lengths_count, const uint8_t *MOSS_RESTRICT arena, size_t arena_count);
 
-/* Whether there is no key. MOSS_EMPTY or MOSS_HOLDS. Refuses 1, 5. */
+/* Whether no slot is live. MOSS_EMPTY or MOSS_HOLDS. Refuses 1, 5. */
 moss_answer moss_byte_set_is_empty(const uint8_t *MOSS_RESTRICT marks, size_t marks_count,
     const uint16_t *MOSS_RESTRICT offsets, size_t offsets_count, const uint8_t *MOSS_RESTRICT lengths, size_t lengths_count,
     const uint8_t *MOSS_RESTRICT arena, size_t arena_count);
@@ -437,7 +440,7 @@ moss_answer moss_byte_set_walk_on(const uint8_t *MOSS_RESTRICT marks, size_t mar
  *
  * A struct bundles a table's lent arrays. MOSS_INT_MAP(name, S) declares one with its static storage; it is empty, as if made. The
  * moss_im_ calls take such a struct and do what the moss_int_map_ call of that name does; moss_is_, moss_bm_ and moss_bs_ are
- * those of integer sets, byte maps and byte sets. */
+ * those of integer sets, byte maps and byte sets. These are not proved: they only pass the struct's fields on. */
 
 /* An integer map's lent arrays. */
 typedef struct moss_int_map {
