@@ -23,8 +23,7 @@ use Rattle.spans.specs.declared.Placed.the-variants as placed
 use Rattle.spans.specs.declared.Located.{Located}
 use Rattle.spans.specs.declared.Located.the-variants as located
 use Rattle.spans.specs.Keys.{byteKeys}
-use Rattle.spans.specs.Memory.{Spans, Strings, strings, bare, usedOf, harmful, fitting, askedOf, keptOf}
-use Rattle.spans.specs.Sound.{liveAt}
+use Rattle.spans.specs.Memory.{Spans, Strings, strings, bare, usedOf, harmful, fitting, askedOf, keptOf, liveAt}
 use Rattle.spans.specs.Planning.{placedBy, roomFor, placing, locatedBy, locating}
 use Rattle.spans.specs.Probing.{pathOf}
 use Rattle.spans.proofs.Sizes.{fitting-says}

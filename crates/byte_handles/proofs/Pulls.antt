@@ -25,9 +25,8 @@ use Rattle.spans.specs.declared.Surveyed.the-variants as surveyed
 use Rattle.spans.specs.Keys.{byteKeys}
 use Rattle.spans.specs.Kinds.{maps}
 use Rattle.spans.specs.Marks.{markAt}
-use Rattle.spans.specs.Memory.{Spans, Strings, keyAt, usedOf, harmful, fitting, askedOf, emptied}
+use Rattle.spans.specs.Memory.{Spans, Strings, keyAt, usedOf, harmful, fitting, askedOf, emptied, liveAt}
 use Rattle.spans.specs.Probing.{sightAt}
-use Rattle.spans.specs.Sound.{liveAt}
 use Rattle.spans.specs.Surveying.{surveying}
 use Rattle.spans.proofs.Bridge.{asked-no}
 use Rattle.spans.proofs.Held.{unharmed-says}

@@ -19,8 +19,7 @@ use Rattle.kinds.specs.declared.Scanned.the-variants as scanned
 use Rattle.kinds.specs.Calls.{capacityOf, lenOf, containsOf}
 use Rattle.kinds.specs.Columns.{nothing}
 use Rattle.kinds.proofs.Bridge.{seenOf}
-use Rattle.spans.specs.Memory.{Spans, fitting}
-use Rattle.spans.specs.Sound.{offsetAt, lengthAt}
+use Rattle.spans.specs.Memory.{Spans, fitting, offsetAt, lengthAt}
 use Rattle.spans.specs.Kinds.{sets, spanOf}
 use Rattle.spans.specs.Probing.{probing}
 use Rattle.spans.specs.Scanning.{scanning}

@@ -60,7 +60,6 @@ module _ {W : Type 0} (C : Column W) (O : Orderly C) where
   pub cells-lawful : Lawful (cells C)
   unfolding used cell made
   cells-lawful = record {
-    Good = λ m. Unit {0};
     homes = λ m k e. home-word-below 0 (length (m .marks)) k (sizes-say m e .0);
     unharmed = λ m e g s. refl;
     within = λ m e g. omega (arith, weightless (cells C .slots m) (length (m .marks)));
@@ -106,8 +105,3 @@ module _ {W : Type 0} (C : Column W) (O : Orderly C) where
       good = tt;
     };
   }
-
-  -- soundness asks nothing of the memory beyond its slots
-  pub cells-good : (m : Cells C) → cells-lawful .Good m
-  unfolding cells-lawful
-  cells-good m = tt

@@ -12,17 +12,17 @@ use Rattle.kinds.specs.Columns.{Column}
 use Rattle.kinds.proofs.Columns.{Orderly}
 use Rattle.ints.specs.Memory.{Cells, cells}
 use Rattle.ints.specs.Places.{Place, mark-at, key-at, beside-at, wordIn, overNames, slotNames, places}
-use Rattle.ints.proofs.Lawful.{cells-lawful, cells-good}
+use Rattle.ints.proofs.Lawful.{cells-lawful}
 
 module _ {W : Type 0} (C : Column W) (O : Orderly C) where
   -- Integer tables are steady: no write of theirs does damage.
   pub cells-steady : Steady (cells C)
   cells-steady = record {
     homes = cells-lawful C O .homes;
-    room = λ m z h. cells-lawful C O .within m z (cells-good C O m);
-    over-steady = λ m i k v w z h l q. let x = cells-lawful C O .over-wrote m i k v w z (cells-good C O m) l q in
+    room = λ m z h. cells-lawful C O .within m z tt;
+    over-steady = λ m i k v w z h l q. let x = cells-lawful C O .over-wrote m i k v w z tt l q in
         record { slots = x .slots; size = x .size; home = x .home; bytes = x .bytes; sized = x .sized; good = refl };
-    fill-steady = λ m i k v z h l q u. let x = cells-lawful C O .fill-wrote m i k v z (cells-good C O m) l q u in
+    fill-steady = λ m i k v z h l q u. let x = cells-lawful C O .fill-wrote m i k v z tt l q u in
         record { slots = x .slots; size = x .size; home = x .home; bytes = x .bytes; sized = x .sized; good = refl };
   }
 

@@ -36,6 +36,7 @@ cells C = record {
   asked = λ k. 0;
   kept = λ k. 0;
   harmed = λ m. false;
+  good = λ m. Unit {0};
   over = λ m i v. record { marks = m .marks; keys = m .keys; words = C .write (m .words) i v };
   fill = λ m i k v. record { marks = set (m .marks) i 1; keys = set (m .keys) i k; words = C .write (m .words) i v };
   free = λ m i. record { marks = set (m .marks) i 2; keys = set (m .keys) i 0; words = C .blank (m .words) i };

@@ -7,3 +7,4 @@ pub mod Settled
 pub mod Published
 pub mod Told
 pub mod Trail
+pub mod Owed

@@ -6,3 +6,4 @@ pub mod Probing
 pub mod Scanning
 pub mod Told
 pub mod Published
+pub mod Owed

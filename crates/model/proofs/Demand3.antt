@@ -9,9 +9,10 @@ use borrow.Author.Tests.{lt-ltb, le-ltb, le-leb, ne-eqb, not-true}
 use lib.Dec.{ltb, eqb}
 use Rattle.model.specs.Slots.{Slot, never, freed, bad, live, Table, Keys, look}
 use Rattle.model.specs.Path.{from}
+use Rattle.model.specs.Finite.{isSome}
 use Rattle.model.specs.Calls.{Or, no, ok, need, pass}
 use Rattle.model.specs.Walk.{Paced, pair, halts, halted, reachOf, paceTo, pace, step, movedBy}
-use Rattle.model.specs.Demand3.{Machine, Event, steps, calls, handsOut, unrefused, has, stepped, stateAfter, walkAfter, good, times, stays, Walked, Orderly}
+use Rattle.model.specs.Demand3.{Machine, steps, calls, handsOut, unrefused, lookIn, Run, has, stateAfter, walkAfter, good, times, stays, lasts, Walked, Orderly}
 use Rattle.model.proofs.Cases.{by-bool, by-lt, by-eq, by-same, both, clash}
 use Rattle.model.proofs.Slots.{look-some}
 use Rattle.model.proofs.Finite.{some-is}
@@ -110,7 +111,7 @@ module _ {K W : Type 0} (S : ℕ) (t : Table K W) where
   halted-unrefused w j bad h = absurd (h refl)
   halted-unrefused w j (live a v) h = refl
 
-  step-going : (w b : ℕ) → ((i : ℕ) → i < S → t i ≡ bad → ⊥) → 0 < b → w ≤ S → unrefused (step S t 0 w b) ≡ 1
+  pub step-going : (w b : ℕ) → ((i : ℕ) → i < S → t i ≡ bad → ⊥) → 0 < b → w ≤ S → unrefused (step S t 0 w b) ≡ 1
   unfolding step pace paceTo need pass unrefused
   step-going w b whole l h = rw (ne-eqb b 0 (omega arith), le-leb w S h) (by-bool (eqb w S) (λ e. rw e)
       (λ e. rw e (by-lt (from (λ i. halts (t i)) (reachOf S w b) w) (w + reachOf S w b)
@@ -119,96 +120,97 @@ module _ {K W : Type 0} (S : ℕ) (t : Table K W) where
 
 module _ {K W : Type 0} (M : Machine K W) (O : Orderly M) where
   -- a key that stays is in the map now
-  stay-now : (es : List (Event (M .Call))) (x : M .State) (k : K) → stays M k x es ≡ true → (v : W) × (look (M .keys) (M .table x) (M .size) k ≡ some v)
+  stay-now : (es : Run M) (x : M .State) (k : K) → stays M k x es ≡ true → (v : W) × (lookIn (M .map x) k ≡ some v)
   unfolding stays has
-  stay-now [] x k s = some-is (M .keys) (look (M .keys) (M .table x) (M .size) k) s
-  stay-now (steps b ∷ es) x k s = some-is (M .keys) (look (M .keys) (M .table x) (M .size) k) (both (has M x k) (stays M k x es) s .0)
-  stay-now (calls c ∷ es) x k s = some-is (M .keys) (look (M .keys) (M .table x) (M .size) k) (both (has M x k) (not (M .wipes x c) && stays M k (M .after x c) es) s .0)
+  stay-now [] x k s = some-is (M .keys) (lookIn (M .map x) k) s
+  stay-now (steps b ∷ es) x k s = some-is (M .keys) (lookIn (M .map x) k) (both (has M x k) (stays M k x es) s .0)
+  stay-now (calls c ∷ es) x k s = some-is (M .keys) (lookIn (M .map x) k) (both (has M x k) (not (M .wipes x c) && stays M k (M .after x c) es) s .0)
+
+  -- what comes after a call of a run along which the map is known: it is known, the rest lasts, the key was not wiped, and it is there with a value
+  onwards : (c : M .Call) (es : Run M) (x : M .State) (k : K) → lasts M x (calls c ∷ es) ≡ true → stays M k x (calls c ∷ es) ≡ true → (isSome (M .map (M .after x c)) ≡ true) × (lasts M (M .after x c) es ≡ true) × (M .wipes x c ≡ false) × (stays M k (M .after x c) es ≡ true) × ((w : W) × (lookIn (M .map (M .after x c)) k ≡ some w))
+  unfolding stays lasts
+  onwards c es x k z s =
+      let (g, y) = both (isSome (M .map (M .after x c))) (lasts M (M .after x c) es) z in
+      let a = both (has M x k) (not (M .wipes x c) && stays M k (M .after x c) es) s .1 in
+      let (n, r) = both (not (M .wipes x c)) (stays M k (M .after x c) es) a in
+      (g, y, not-true (M .wipes x c) n, r, stay-now es (M .after x c) k r)
 
   -- a key that stays, stays in its slot; and it is handed out exactly when the walk passes that slot
-  stay-slot : (es : List (Event (M .Call))) (x : M .State) → O .Fine x → (k : K) (i : ℕ) (v : W) → i < M .size → M .table x i ≡ live k v → stays M k x es ≡ true → (w : W) × (M .table (stateAfter M x es) i ≡ live k w)
-  unfolding stays stateAfter
-  stay-slot [] x f k i v l e s = (v, e)
-  stay-slot (steps b ∷ es) x f k i v l e s = stay-slot es x f k i v l e (both (has M x k) (stays M k x es) s .1)
-  stay-slot (calls c ∷ es) x f k i v l e s =
-      let a = both (has M x k) (not (M .wipes x c) && stays M k (M .after x c) es) s .1 in
-      let r = both (not (M .wipes x c)) (stays M k (M .after x c) es) a .1 in
-      let (w, p) = stay-now es (M .after x c) k r in
-      stay-slot es (M .after x c) (O .after-fine x c f) k i w l (O .stands x c f (not-true (M .wipes x c) (both (not (M .wipes x c)) (stays M k (M .after x c) es) a .0)) i k v w l e p) r
+  stay-slot : (es : Run M) (x : M .State) → O .Fine x → lasts M x es ≡ true → (k : K) (i : ℕ) (v : W) → i < M .size → O .table x i ≡ live k v → stays M k x es ≡ true → (w : W) × (O .table (stateAfter M x es) i ≡ live k w)
+  unfolding stays stateAfter lasts
+  stay-slot [] x f z k i v l e s = (v, e)
+  stay-slot (steps b ∷ es) x f z k i v l e s = stay-slot es x f z k i v l e (both (has M x k) (stays M k x es) s .1)
+  stay-slot (calls c ∷ es) x f z k i v l e s =
+      let (g, y, n, r, (w, p)) = onwards c es x k z s in
+      stay-slot es (M .after x c) (O .after-fine x c f g) y k i w l (O .stands x c f g n i k v w l e p) r
 
-  stepped-past : (x : M .State) (q : M .Ticket) (w b : ℕ) → O .Fine x → (k : K) (i : ℕ) (v : W) → i < M .size → M .table x i ≡ live k v → handsOut (M .keys) k (stepped M x q w b) + past i w ≡ past i (movedBy w (stepped M x q w b))
-  unfolding stepped
-  stepped-past x q w b f k i v l e = step-past (M .keys) (M .size) (M .table x) (O .once x f) (M .bar x q) w b i k v l e
+  stepped-past : (x : M .State) (q : M .Ticket) (w : ℕ) (b : M .Step) → O .Fine x → (k : K) (i : ℕ) (v : W) → i < M .size → O .table x i ≡ live k v → handsOut (M .keys) k (M .answers x q w b) + past i w ≡ past i (movedBy w (M .answers x q w b))
+  stepped-past x q w b f k i v l e = rw (O .paces x f q w b) (step-past (M .keys) (M .size) (O .table x) (O .once x f) (M .bar x q) w (M .budget b) i k v l e)
 
-  times-past : (es : List (Event (M .Call))) (x : M .State) (q : M .Ticket) (w : ℕ) → O .Fine x → (k : K) (i : ℕ) (v : W) → i < M .size → M .table x i ≡ live k v → stays M k x es ≡ true → times M k x q w es + past i w ≡ past i (walkAfter M x q w es)
-  unfolding stays times walkAfter
-  times-past [] x q w f k i v l e s = omega arith
-  times-past (steps b ∷ es) x q w f k i v l e s =
+  times-past : (es : Run M) (x : M .State) (q : M .Ticket) (w : ℕ) → O .Fine x → lasts M x es ≡ true → (k : K) (i : ℕ) (v : W) → i < M .size → O .table x i ≡ live k v → stays M k x es ≡ true → times M k x q w es + past i w ≡ past i (walkAfter M x q w es)
+  unfolding stays times walkAfter lasts
+  times-past [] x q w f z k i v l e s = omega arith
+  times-past (steps b ∷ es) x q w f z k i v l e s =
       let one = stepped-past x q w b f k i v l e in
-      let rest = times-past es x q (movedBy w (stepped M x q w b)) f k i v l e (both (has M x k) (stays M k x es) s .1) in
+      let rest = times-past es x q (movedBy w (M .answers x q w b)) f z k i v l e (both (has M x k) (stays M k x es) s .1) in
       omega (arith, one, rest)
-  times-past (calls c ∷ es) x q w f k i v l e s =
-      let a = both (has M x k) (not (M .wipes x c) && stays M k (M .after x c) es) s .1 in
-      let r = both (not (M .wipes x c)) (stays M k (M .after x c) es) a .1 in
-      let (u, p) = stay-now es (M .after x c) k r in
-      times-past es (M .after x c) q w (O .after-fine x c f) k i u l (O .stands x c f (not-true (M .wipes x c) (both (not (M .wipes x c)) (stays M k (M .after x c) es) a .0)) i k v u l e p) r
+  times-past (calls c ∷ es) x q w f z k i v l e s =
+      let (g, y, n, r, (u, p)) = onwards c es x k z s in
+      times-past es (M .after x c) q w (O .after-fine x c f g) y k i u l (O .stands x c f g n i k v u l e p) r
 
-  fine-after : (es : List (Event (M .Call))) (x : M .State) → O .Fine x → O .Fine (stateAfter M x es)
-  unfolding stateAfter
-  fine-after [] x f = f
-  fine-after (steps b ∷ es) x f = fine-after es x f
-  fine-after (calls c ∷ es) x f = fine-after es (M .after x c) (O .after-fine x c f)
+  fine-after : (es : Run M) (x : M .State) → O .Fine x → lasts M x es ≡ true → O .Fine (stateAfter M x es)
+  unfolding stateAfter lasts
+  fine-after [] x f z = f
+  fine-after (steps b ∷ es) x f z = fine-after es x f z
+  fine-after (calls c ∷ es) x f z = let (g, y) = both (isSome (M .map (M .after x c))) (lasts M (M .after x c) es) z in fine-after es (M .after x c) (O .after-fine x c f g) y
 
   -- a step leaves the walk within the slots, and an unrefused one moves it on
-  stepped-high : (x : M .State) (q : M .Ticket) (w b : ℕ) → w ≤ M .size → movedBy w (stepped M x q w b) ≤ M .size
-  unfolding stepped
-  stepped-high x q w b l = step-high (M .size) (M .table x) (M .bar x q) w b l
+  stepped-high : (x : M .State) (q : M .Ticket) (w : ℕ) (b : M .Step) → O .Fine x → w ≤ M .size → movedBy w (M .answers x q w b) ≤ M .size
+  stepped-high x q w b f l = rw (O .paces x f q w b) (step-high (M .size) (O .table x) (M .bar x q) w (M .budget b) l)
 
-  walk-high : (es : List (Event (M .Call))) (x : M .State) (q : M .Ticket) (w : ℕ) → w ≤ M .size → walkAfter M x q w es ≤ M .size
-  unfolding walkAfter
-  walk-high [] x q w l = l
-  walk-high (steps b ∷ es) x q w l = walk-high es x q (movedBy w (stepped M x q w b)) (stepped-high x q w b l)
-  walk-high (calls c ∷ es) x q w l = walk-high es (M .after x c) q w l
+  walk-high : (es : Run M) (x : M .State) (q : M .Ticket) (w : ℕ) → O .Fine x → lasts M x es ≡ true → w ≤ M .size → walkAfter M x q w es ≤ M .size
+  unfolding walkAfter lasts
+  walk-high [] x q w f z l = l
+  walk-high (steps b ∷ es) x q w f z l = walk-high es x q (movedBy w (M .answers x q w b)) f z (stepped-high x q w b f l)
+  walk-high (calls c ∷ es) x q w f z l = let (g, y) = both (isSome (M .map (M .after x c))) (lasts M (M .after x c) es) z in walk-high es (M .after x c) q w (O .after-fine x c f g) y l
 
-  stepped-moves : (x : M .State) (q : M .Ticket) (w b r : ℕ) → w ≤ M .size → M .size ≤ unrefused (stepped M x q w b) + r + w → M .size ≤ r + movedBy w (stepped M x q w b)
-  unfolding stepped
-  stepped-moves x q w b r l h = step-moves (M .size) (M .table x) (M .bar x q) w b r l h
+  stepped-moves : (x : M .State) (q : M .Ticket) (w : ℕ) (b : M .Step) (r : ℕ) → O .Fine x → w ≤ M .size → M .size ≤ unrefused (M .answers x q w b) + r + w → M .size ≤ r + movedBy w (M .answers x q w b)
+  stepped-moves x q w b r f l h = rw (O .paces x f q w b) (step-moves (M .size) (O .table x) (M .bar x q) w (M .budget b) r l (rw (O .paces x f q w b) at h))
 
-  good-ends : (es : List (Event (M .Call))) (x : M .State) (q : M .Ticket) (w : ℕ) → w ≤ M .size → M .size ≤ good M x q w es + w → walkAfter M x q w es ≡ M .size
-  unfolding walkAfter good
-  good-ends [] x q w l h = omega arith
-  good-ends (steps b ∷ es) x q w l h = good-ends es x q (movedBy w (stepped M x q w b)) (stepped-high x q w b l) (stepped-moves x q w b (good M x q (movedBy w (stepped M x q w b)) es) l h)
-  good-ends (calls c ∷ es) x q w l h = good-ends es (M .after x c) q w l h
+  good-ends : (es : Run M) (x : M .State) (q : M .Ticket) (w : ℕ) → O .Fine x → lasts M x es ≡ true → w ≤ M .size → M .size ≤ good M x q w es + w → walkAfter M x q w es ≡ M .size
+  unfolding walkAfter good lasts
+  good-ends [] x q w f z l h = omega arith
+  good-ends (steps b ∷ es) x q w f z l h = good-ends es x q (movedBy w (M .answers x q w b)) f z (stepped-high x q w b f l) (stepped-moves x q w b (good M x q (movedBy w (M .answers x q w b)) es) f l h)
+  good-ends (calls c ∷ es) x q w f z l h = let (g, y) = both (isSome (M .map (M .after x c))) (lasts M (M .after x c) es) z in good-ends es (M .after x c) q w (O .after-fine x c f g) y l h
 
-  going-on : (x : M .State) (q : M .Ticket) (w b : ℕ) → O .Fine x → 0 < b → w ≤ M .size → M .bar x q ≡ 0 → unrefused (stepped M x q w b) ≡ 1
-  unfolding stepped
-  going-on x q w b f l h e = rw e (step-going (M .size) (M .table x) w b (O .whole x f) l h)
+  going-on : (x : M .State) (q : M .Ticket) (w : ℕ) (b : M .Step) → O .Fine x → 0 < M .budget b → w ≤ M .size → M .bar x q ≡ 0 → unrefused (M .answers x q w b) ≡ 1
+  going-on x q w b f l h e = rw (O .paces x f q w b, e) (step-going (M .size) (O .table x) w (M .budget b) (O .whole x f) l h)
 
   -- a step that hands out a pair stopped at its live slot
-  pub stepped-pair : (x : M .State) (q : M .Ticket) (w b : ℕ) (k : K) (v : W) (y n : ℕ) → stepped M x q w b ≡ ok (pair k v y n) → (j : ℕ) × (w ≤ j) × (j < M .size) × (M .table x j ≡ live k v) × (y ≡ suc j)
-  unfolding stepped
-  stepped-pair x q w b k v y n e = step-pair (M .size) (M .table x) (M .bar x q) w b k v y n e
+  stepped-pair : (x : M .State) (q : M .Ticket) (w : ℕ) (b : M .Step) → O .Fine x → (k : K) (v : W) (y n : ℕ) → M .answers x q w b ≡ ok (pair k v y n) → (j : ℕ) × (w ≤ j) × (j < M .size) × (O .table x j ≡ live k v) × (y ≡ suc j)
+  stepped-pair x q w b f k v y n e = step-pair (M .size) (O .table x) (M .bar x q) w (M .budget b) k v y n (sym (O .paces x f q w b) ∙ e)
 
   -- demand 3
   pub demand-3 : (x : M .State) → O .Fine x → Walked M x
   demand-3 x f = record {
-    ending = λ es h. good-ends es x (M .ticket x) 0 (omega arith) (omega arith);
-    going = λ es b l e. going-on (stateAfter M x es) (M .ticket x) (walkAfter M x (M .ticket x) 0 es) b (fine-after es x f) l (walk-high es x (M .ticket x) 0 (omega arith)) e;
-    staying = λ k es s h.
+    ending = λ es t h. good-ends es x (M .ticket x) 0 f t (omega arith) (omega arith);
+    going = λ es b t l e. going-on (stateAfter M x es) (M .ticket x) (walkAfter M x (M .ticket x) 0 es) b (fine-after es x f t) l (walk-high es x (M .ticket x) 0 f t (omega arith)) e;
+    staying = λ k es t s h.
         let (v, p) = stay-now es x k s in
-        let (i, l, e) = look-some (M .keys) k (M .table x) (M .size) v p in
-        omega (arith, times-past es x (M .ticket x) 0 f k i v l e s, past-none i 0 (omega arith), past-one i (walkAfter M x (M .ticket x) 0 es) (omega arith));
-    present = λ es b k v y n e.
-        let (j, a, l, q, z) = stepped-pair (stateAfter M x es) (M .ticket x) (walkAfter M x (M .ticket x) 0 es) b k v y n e in
-        once-look (M .keys) (M .size) (M .table (stateAfter M x es)) (O .once (stateAfter M x es) (fine-after es x f)) k j v l q;
-    apart = λ es fs b c k v u y n z i e g. by-bool (stays M k (stateAfter M x es) fs)
+        let (i, l, e) = look-some (M .keys) k (O .table x) (M .size) v (O .shows x f k ∙ p) in
+        omega (arith, times-past es x (M .ticket x) 0 f t k i v l e s, past-none i 0 (omega arith), past-one i (walkAfter M x (M .ticket x) 0 es) (omega arith));
+    present = λ es b k v y n t e.
+        let (j, a, l, q, z) = stepped-pair (stateAfter M x es) (M .ticket x) (walkAfter M x (M .ticket x) 0 es) b (fine-after es x f t) k v y n e in
+        sym (O .shows (stateAfter M x es) (fine-after es x f t) k) ∙ once-look (M .keys) (M .size) (O .table (stateAfter M x es)) (O .once (stateAfter M x es) (fine-after es x f t)) k j v l q;
+    apart = λ es fs b c k v u y n z i ta tb e g. by-bool (stays M k (stateAfter M x es) fs)
         (λ s.
-        let f′ = fine-after es x f in
-        let (j, a, l, q, d) = stepped-pair (stateAfter M x es) (M .ticket x) (walkAfter M x (M .ticket x) 0 es) b k v y n e in
-        let (j′, a′, l′, q′, d′) = stepped-pair (stateAfter M (stateAfter M x es) fs) (M .ticket x) (walkAfter M (stateAfter M x es) (M .ticket x) y fs) c k u z i g in
-        let (o, p) = stay-slot fs (stateAfter M x es) f′ k j v l q s in
-        let t = times-past fs (stateAfter M x es) (M .ticket x) y f′ k j v l q s in
-        let h : j ≡ j′ = O .once (stateAfter M (stateAfter M x es) fs) (fine-after fs (stateAfter M x es) f′) j j′ k o u l l′ p q′ in
+        let f′ = fine-after es x f ta in
+        let (j, a, l, q, d) = stepped-pair (stateAfter M x es) (M .ticket x) (walkAfter M x (M .ticket x) 0 es) b f′ k v y n e in
+        let f″ = fine-after fs (stateAfter M x es) f′ tb in
+        let (j′, a′, l′, q′, d′) = stepped-pair (stateAfter M (stateAfter M x es) fs) (M .ticket x) (walkAfter M (stateAfter M x es) (M .ticket x) y fs) c f″ k u z i g in
+        let (o, p) = stay-slot fs (stateAfter M x es) f′ tb k j v l q s in
+        let t = times-past fs (stateAfter M x es) (M .ticket x) y f′ tb k j v l q s in
+        let h : j ≡ j′ = O .once (stateAfter M (stateAfter M x es) fs) f″ j j′ k o u l l′ p q′ in
         absurd (omega (arith, past-one j y (omega arith), past-none j (walkAfter M (stateAfter M x es) (M .ticket x) y fs) (omega arith))))
         (λ s. s);
   }

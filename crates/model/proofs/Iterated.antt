@@ -2,16 +2,17 @@
 use Prim.Native.Nat.{ℕ, zero, suc, _≤_, _<_}
 use mathlib.Core.Bool.{true, false}
 use mathlib.Core.List.{List, [], _∷_, _++_, append-assoc, append-nil, List·Memᴰ, List·Memᴰ·head, List·Memᴰ·tail, List·Memᴰ·not-nil, List·Memᴰ·append-cases, List·Memᴰ·eq-of-singleton, Memᴰ·append-left, Memᴰ·append-right}
+use mathlib.Core.Option.{some}
 use mathlib.Core.Path.{_≡_, refl, sym, _∙_, ap, subst}
 use mathlib.Core.Logic.{⊎-elim}
 use native.Mathlib.Omega.{arith}
 use lib.ListN.{length, length-append}
-use Rattle.model.specs.Slots.{Slot, never, freed, bad, live, Table, Keys, weigh, total, count, pairOf, pairs}
-use Rattle.model.specs.Finite.{firsts, contains, finiteOf}
+use Rattle.model.specs.Slots.{Slot, never, freed, bad, live, Table, Keys, weigh, total, count, pairOf, pairs, look}
+use Rattle.model.specs.Finite.{Finite, isSome, firsts, contains, len, finiteOf}
 use Rattle.model.specs.Calls.{Or, no, ok}
 use Rattle.model.specs.Walk.{Paced, halts, step, movedBy}
-use Rattle.model.specs.Demand3.{Machine, pairFrom, has, stepped, walkAfter, times, handed, stays, Walked, Orderly}
-use Rattle.model.specs.Iterated.{budgets, seconds, Iterated}
+use Rattle.model.specs.Demand3.{Machine, pairFrom, lookIn, has, walkAfter, times, handed, stays, lasts, Walked, Orderly}
+use Rattle.model.specs.Iterated.{onlySteps, seconds, Iterated}
 use Rattle.model.proofs.Cases.{by-lt, clash}
 use Rattle.model.proofs.Slots.{look-some}
 use Rattle.model.proofs.Sound.{once-look}
@@ -112,48 +113,52 @@ module _ {K W : Type 0} where
   of-second v (p ∷ ps) (List·Memᴰ·head e) = (p .0, List·Memᴰ·head (ap (λ x. (p .0, x)) e))
   of-second v (p ∷ ps) (List·Memᴰ·tail m) = let (k, q) = of-second v ps m in (k, List·Memᴰ·tail q)
 
-  -- the pairs of a table whose live keys stand once are upstream's iter, keys and values
-  pub pairs-iterated : (E : Keys K) (S : ℕ) (t : Table K W) → ((i j : ℕ) (k : K) (v w : W) → i < S → j < S → t i ≡ live k v → t j ≡ live k w → i ≡ j) → Iterated E t S (pairs t S)
+  -- the pairs of a table whose live keys stand once, and whose map is f, are upstream's iter, keys and values of f
+  pub pairs-iterated : (E : Keys K) (S : ℕ) (t : Table K W) (f : Finite K W) → ((i j : ℕ) (k : K) (v w : W) → i < S → j < S → t i ≡ live k v → t j ≡ live k w → i ≡ j) → ((k : K) → look E t S k ≡ f .look k) → count t S ≡ len f → Iterated E f (pairs t S)
   unfolding finiteOf contains
-  pairs-iterated E S t once = record {
-    all = pairs-length t S;
-    right = λ k v m. let (i, l, e) = pair-slot t S k v m in once-look E S t once k i v l e;
-    there = λ k v e. let (i, l, q) = look-some E k t S v e in slot-pair t S i k v l q;
+  pairs-iterated E S t f once looks counts = record {
+    all = pairs-length t S ∙ counts;
+    right = λ k v m. let (i, l, e) = pair-slot t S k v m in sym (looks k) ∙ once-look E S t once k i v l e;
+    there = λ k v e. let (i, l, q) = look-some E k t S v (looks k ∙ e) in slot-pair t S i k v l q;
     once = finite-proper E S t once .once;
-    keys = finite-proper E S t once .listed;
-    keys-all = firsts-length (pairs t S) ∙ pairs-length t S;
-    values = λ v m. let (k, p) = of-second v (pairs t S) m in let (i, l, e) = pair-slot t S k v p in (k, once-look E S t once k i v l e);
-    values-there = λ k v e. let (i, l, q) = look-some E k t S v e in second-of k v (pairs t S) (slot-pair t S i k v l q);
-    values-all = seconds-length (pairs t S) ∙ pairs-length t S;
+    keys = λ k. finite-proper E S t once .listed k ∙ ap (λ o. isSome o) (looks k);
+    keys-all = firsts-length (pairs t S) ∙ pairs-length t S ∙ counts;
+    values = λ v m. let (k, p) = of-second v (pairs t S) m in let (i, l, e) = pair-slot t S k v p in (k, sym (looks k) ∙ once-look E S t once k i v l e);
+    values-there = λ k v e. let (i, l, q) = look-some E k t S v (looks k ∙ e) in second-of k v (pairs t S) (slot-pair t S i k v l q);
+    values-all = seconds-length (pairs t S) ∙ pairs-length t S ∙ counts;
   }
 
 module _ {K W : Type 0} (M : Machine K W) where
-  stepped-pairs : (x : M .State) (q : M .Ticket) (w b : ℕ) → pairs (M .table x) (movedBy w (stepped M x q w b)) ≡ pairs (M .table x) w ++ pairFrom (stepped M x q w b)
-  unfolding stepped
-  stepped-pairs x q w b = step-pairs (M .size) (M .table x) (M .bar x q) w b
+  stepped-pairs : (O : Orderly M) (x : M .State) → O .Fine x → (q : M .Ticket) (w : ℕ) (b : M .Step) → pairs (O .table x) (movedBy w (M .answers x q w b)) ≡ pairs (O .table x) w ++ pairFrom (M .answers x q w b)
+  stepped-pairs O x f q w b = rw (O .paces x f q w b) (step-pairs (M .size) (O .table x) (M .bar x q) w (M .budget b))
 
   -- steps with nothing between them hand out the pairs of the slots that they passed
-  handed-pairs : (bs : List ℕ) (x : M .State) (q : M .Ticket) (w : ℕ) → pairs (M .table x) (walkAfter M x q w (budgets bs)) ≡ pairs (M .table x) w ++ handed M x q w (budgets bs)
-  unfolding walkAfter handed budgets
-  handed-pairs [] x q w = sym (append-nil (pairs (M .table x) w))
-  handed-pairs (b ∷ bs) x q w =
-      handed-pairs bs x q (movedBy w (stepped M x q w b))
-      ∙ ap (λ ps. ps ++ handed M x q (movedBy w (stepped M x q w b)) (budgets bs)) (stepped-pairs x q w b)
-      ∙ append-assoc (pairs (M .table x) w) (pairFrom (stepped M x q w b)) (handed M x q (movedBy w (stepped M x q w b)) (budgets bs))
+  handed-pairs : (O : Orderly M) (bs : List (M .Step)) (x : M .State) → O .Fine x → (q : M .Ticket) (w : ℕ) → pairs (O .table x) (walkAfter M x q w (onlySteps bs)) ≡ pairs (O .table x) w ++ handed M x q w (onlySteps bs)
+  unfolding walkAfter handed onlySteps
+  handed-pairs O [] x f q w = sym (append-nil (pairs (O .table x) w))
+  handed-pairs O (b ∷ bs) x f q w =
+      handed-pairs O bs x f q (movedBy w (M .answers x q w b))
+      ∙ ap (λ ps. ps ++ handed M x q (movedBy w (M .answers x q w b)) (onlySteps bs)) (stepped-pairs O x f q w b)
+      ∙ append-assoc (pairs (O .table x) w) (pairFrom (M .answers x q w b)) (handed M x q (movedBy w (M .answers x q w b)) (onlySteps bs))
 
   -- a whole walk with no call in between: upstream's clauses for iter, keys and values
-  pub walk-iterated : (O : Orderly M) (x : M .State) → O .Fine x → (bs : List ℕ) → walkAfter M x (M .ticket x) 0 (budgets bs) ≡ M .size → Iterated (M .keys) (M .table x) (M .size) (handed M x (M .ticket x) 0 (budgets bs))
-  unfolding pairs
-  walk-iterated O x f bs e =
-      let p : pairs (M .table x) (M .size) ≡ handed M x (M .ticket x) 0 (budgets bs) = ap (λ n. pairs (M .table x) n) (sym e) ∙ handed-pairs bs x (M .ticket x) 0 in
-      subst (λ ps. Iterated (M .keys) (M .table x) (M .size) ps) p (pairs-iterated (M .keys) (M .size) (M .table x) (O .once x f))
+  pub walk-iterated : (O : Orderly M) (x : M .State) → O .Fine x → (f : Finite K W) → M .map x ≡ some f → (bs : List (M .Step)) → walkAfter M x (M .ticket x) 0 (onlySteps bs) ≡ M .size → Iterated (M .keys) f (handed M x (M .ticket x) 0 (onlySteps bs))
+  unfolding pairs lookIn
+  walk-iterated O x o f m bs e =
+      let p : pairs (O .table x) (M .size) ≡ handed M x (M .ticket x) 0 (onlySteps bs) = ap (λ n. pairs (O .table x) n) (sym e) ∙ handed-pairs O bs x o (M .ticket x) 0 in
+      subst (λ ps. Iterated (M .keys) f ps) p (pairs-iterated (M .keys) (M .size) (O .table x) f (O .once x o) (λ k. O .shows x o k ∙ ap (λ g. lookIn g k) m) (O .counts x o f m))
 
-  -- every key stays where no call comes between
-  unmoved : (k : K) (x : M .State) (bs : List ℕ) → has M x k ≡ true → stays M k x (budgets bs) ≡ true
-  unfolding stays budgets
+  -- every key stays, and the map stays known, where no call comes between
+  unmoved : (k : K) (x : M .State) (bs : List (M .Step)) → has M x k ≡ true → stays M k x (onlySteps bs) ≡ true
+  unfolding stays onlySteps
   unmoved k x [] h = h
   unmoved k x (b ∷ bs) h = rw h (unmoved k x bs h)
 
+  unasked : (x : M .State) (bs : List (M .Step)) → lasts M x (onlySteps bs) ≡ true
+  unfolding lasts onlySteps
+  unasked x [] = refl
+  unasked x (b ∷ bs) = unasked x bs
+
   -- so that demand 3 hands out each key of the map once
-  pub walk-once : (x : M .State) → Walked M x → (k : K) (bs : List ℕ) → has M x k ≡ true → walkAfter M x (M .ticket x) 0 (budgets bs) ≡ M .size → times M k x (M .ticket x) 0 (budgets bs) ≡ 1
-  walk-once x p k bs h e = p .staying k (budgets bs) (unmoved k x bs h) e
+  pub walk-once : (x : M .State) → Walked M x → (k : K) (bs : List (M .Step)) → has M x k ≡ true → walkAfter M x (M .ticket x) 0 (onlySteps bs) ≡ M .size → times M k x (M .ticket x) 0 (onlySteps bs) ≡ 1
+  walk-once x p k bs h e = p .staying k (onlySteps bs) (unasked x bs) (unmoved k x bs h) e

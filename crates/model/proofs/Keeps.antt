@@ -57,12 +57,12 @@ module _ {K W : Type 0} (M : Store K W) where
   path-free m k e f q = miss-free (M .keys) (M .size m) (M .home m k) (M .slots m) k e f q
 
   -- maps that look up alike are shown alike
-  pub shows-same : {L : Lawful M} {m : M .State} (f g : Finite K W) → Shows M L m f → ((k : K) → f .look k ≡ g .look k) → Proper (M .keys) g → Shows M L m g
+  pub shows-same : {m : M .State} (f g : Finite K W) → Shows M m f → ((k : K) → f .look k ≡ g .look k) → Proper (M .keys) g → Shows M m g
   shows-same f g s e p = record { healthy = s .healthy; looks = λ k. s .looks k ∙ e k; proper = p }
 
-  module _ (L : Lawful M) (m : M .State) (f : Finite K W) (s : Shows M L m f) where
+  module _ (L : Lawful M) (m : M .State) (f : Finite K W) (s : Shows M m f) where
     -- an accepted call's map, the old one where it is refused
-    acted-shows : {A : Type 0} (x : Or A) (say : A → Answer K W) (y : M .State) (g : Finite K W) → ((a : A) → refuses (say a) ≡ false) → ((a : A) → x ≡ ok a → Shows M L y g) → Shows M L (acted M m x y) (cond (refuses (report say x)) f g)
+    acted-shows : {A : Type 0} (x : Or A) (say : A → Answer K W) (y : M .State) (g : Finite K W) → ((a : A) → refuses (say a) ≡ false) → ((a : A) → x ≡ ok a → Shows M y g) → Shows M (acted M m x y) (cond (refuses (report say x)) f g)
     unfolding acted report refuses
     acted-shows (no n) say y g e h = s
     acted-shows (ok a) say y g e h = rw (e a) (h a refl)
@@ -71,18 +71,18 @@ module _ {K W : Type 0} (M : Store K W) where
     unfolding path
     path-gone k e x q = sym (s .looks k) ∙ sound-gone (M .keys) (M .size m) (M .home m) (home-below M L m (s .healthy)) (M .slots m) (s .healthy .sound) k e x q
 
-    pub filled-shows : (i e : ℕ) (k : K) (v : W) → spotBy M m k (path M m k) ≡ ok (vacant i e) → Shows M L (M .fill m i k v) (insert (M .keys) f k v)
+    pub filled-shows : (i e : ℕ) (k : K) (v : W) → spotBy M m k (path M m k) ≡ ok (vacant i e) → Shows M (M .fill m i k v) (insert (M .keys) f k v)
     filled-shows i e k v q =
         let (x, p, r, l, u) = spot-vacant M m k i e q in
         let y : x ≡ freeAt (M .size m) (M .home m k) (M .slots m) = path-free m k e x p in
         let z : i ≡ slotAt M m k (freeAt (M .size m) (M .home m k) (M .slots m)) = r ∙ ap (λ n. slotAt M m k n) y in
         rw z (shows-fill M L m f s k v (path-gone k e x p) (omega arith) (omega (arith, L .within m (s .healthy .sized) (s .healthy .good))))
 
-    pub insert-shows : (k : K) (v : W) → Shows M L (after-insert M m k v) (cond (refuses (report {K = K} spot (entry M m k))) f (insert (M .keys) f k v))
+    pub insert-shows : (k : K) (v : W) → Shows M (after-insert M m k v) (cond (refuses (report {K = K} spot (entry M m k))) f (insert (M .keys) f k v))
     unfolding after-insert report refuses storedBy entry
     insert-shows k v = go (entry M m k) refl
       where
-        go : (r : Or (Spot W)) → entry M m k ≡ r → Shows M L (storedBy M m k v r) (cond (refuses (report {K = K} spot r)) f (insert (M .keys) f k v))
+        go : (r : Or (Spot W)) → entry M m k ≡ r → Shows M (storedBy M m k v r) (cond (refuses (report {K = K} spot r)) f (insert (M .keys) f k v))
         go (no n) e = s
         go (ok (occupied i w x)) e =
             let (n, p, q, t) = spot-occupied M m k w i x (entry-spot M m k (occupied i w x) e) in
@@ -90,11 +90,11 @@ module _ {K W : Type 0} (M : Store K W) where
             rw q (shows-over M L m f s (slotAt M m k n) k v w l c)
         go (ok (vacant i x)) e = filled-shows i x k v (entry-spot M m k (vacant i x) e)
 
-    pub remove-shows : (k : K) → Shows M L (after-remove M m k) (cond (refuses (report {K = K} seen (Calls.remove M m k))) f (remove (M .keys) f k))
+    pub remove-shows : (k : K) → Shows M (after-remove M m k) (cond (refuses (report {K = K} seen (Calls.remove M m k))) f (remove (M .keys) f k))
     unfolding after-remove report refuses removedBy Calls.remove remove
     remove-shows k = go (Calls.remove M m k) refl
       where
-        go : (r : Or (Seen W)) → Calls.remove M m k ≡ r → Shows M L (removedBy M m r) (cond (refuses (report {K = K} seen r)) f (remove (M .keys) f k))
+        go : (r : Or (Seen W)) → Calls.remove M m k ≡ r → Shows M (removedBy M m r) (cond (refuses (report {K = K} seen r)) f (remove (M .keys) f k))
         go (no n) e = s
         go (ok (found w i x)) e =
             let (n, p, q, t) = seen-found M m k w i x (remove-seen M m k (found w i x) e) in
@@ -104,25 +104,25 @@ module _ {K W : Type 0} (M : Store K W) where
             let (y, p) = seen-absent M m k x (remove-seen M m k (absent x) e) in
             shows-same f (remove (M .keys) f k) s (λ a. by-same (M .keys) a k (λ q t. rw (t, q) (path-gone k x y p)) (λ t. rw t)) (remove-proper (M .keys) f k (s .proper))
 
-    pub set-shows : (i : ℕ) (k : K) (v w : W) → occupied-get M m i k ≡ ok w → Shows M L (M .over m i v) (insert (M .keys) f k v)
+    pub set-shows : (i : ℕ) (k : K) (v w : W) → occupied-get M m i k ≡ ok w → Shows M (M .over m i v) (insert (M .keys) f k v)
     set-shows i k v w e = let (l, c) = grip-live M m k i w (occupied-grip M m k i w e) in shows-over M L m f s i k v w l c
 
-    pub drop-shows : (i : ℕ) (k : K) (w : W) → occupied-remove M m i k ≡ ok w → Shows M L (M .free m i) (remove (M .keys) f k)
+    pub drop-shows : (i : ℕ) (k : K) (w : W) → occupied-remove M m i k ≡ ok w → Shows M (M .free m i) (remove (M .keys) f k)
     drop-shows i k w e = let (l, c) = grip-live M m k i w (removed-grip M m k i w e) in shows-free M L m f s i k w l c
 
-    pub vacancy-shows : (i : ℕ) (k : K) (v : W) (u : Unit {0}) → vacancy M m i k ≡ ok u → Shows M L (M .fill m i k v) (insert (M .keys) f k v)
+    pub vacancy-shows : (i : ℕ) (k : K) (v : W) (u : Unit {0}) → vacancy M m i k ≡ ok u → Shows M (M .fill m i k v) (insert (M .keys) f k v)
     vacancy-shows i k v u e = let (x, q) = good-vacant M m k i u (vacancy-good M m k i u e) in filled-shows i x k v q
 
-    fill-shows : (i : ℕ) (k : K) (v : W) → Shows M L (after-fill M m i k v) (cond (refuses (report {K = K} value (vacant-insert M m i k v))) f (insert (M .keys) f k v))
+    fill-shows : (i : ℕ) (k : K) (v : W) → Shows M (after-fill M m i k v) (cond (refuses (report {K = K} value (vacant-insert M m i k v))) f (insert (M .keys) f k v))
     unfolding after-fill vacant-insert refuses
     fill-shows i k v = rw (refuses-give v (vacancy M m i k) (λ u. fine) (λ a. refl)) (acted-shows (vacancy M m i k) (λ u. fine) (M .fill m i k v) (insert (M .keys) f k v) (λ a. refl) (λ u e. vacancy-shows i k v u e))
 
-    kept-shows : (b : Bool) → Shows M L m (cond b f f)
+    kept-shows : (b : Bool) → Shows M m (cond b f f)
     kept-shows true = s
     kept-shows false = s
 
     -- every call on one table leaves the map that it names, unless refused
-    pub own-shows : (c : Own K W) → Shows M L (leaves M m c) (cond (refuses (tells M m c)) f (grows M c f))
+    pub own-shows : (c : Own K W) → Shows M (leaves M m c) (cond (refuses (tells M m c)) f (grows M c f))
     unfolding leaves tells grows refuses after-make after-set after-drop or-insert after-or-insert insert-entry after-insert-entry
     own-shows makes = acted-shows (capacity M m) (λ n. fine) (M .wipe m) empty (λ a. refl) (λ a e. shows-wipe M L m (s .healthy .sized))
     own-shows clears = acted-shows (capacity M m) (λ n. fine) (M .wipe m) empty (λ a. refl) (λ a e. shows-wipe M L m (s .healthy .sized))

@@ -12,14 +12,13 @@ use Rattle.model.specs.Slots.{never, bad, frees, live, made, pairs, look
 use Rattle.model.specs.Path.{hit, miss, freeAt}
 use Rattle.model.specs.Finite.{Finite, isSome, contains, member, mass, len, empty, insert, remove, firsts, finiteOf}
 use Rattle.model.specs.Store.{Store, path, slotAt, pathLength, live-count, used}
-use Rattle.model.specs.Calls.{Or, no, ok, need, pass, give, Seen, found, absent, Spot, occupied, vacant, on-occupied, on-vacant, seenBy, spotBy, get, entry, storedBy, after-insert, removedBy, after-remove, acted, capacity, after-make, reserve, copy, after-copy, ruleBy, rule, storeAll, missed, lacking, needs, union, after-union, gripOn, grip, occupied-get, after-set, occupied-remove, after-drop, goodFor, vacancy, vacant-insert, after-fill, or-insert, after-or-insert, insert-entry, after-insert-entry}
+use Rattle.model.specs.Calls.{lookupOf, Or, no, ok, need, pass, give, Seen, found, absent, Spot, occupied, vacant, on-occupied, on-vacant, seenBy, spotBy, get, entry, storedBy, after-insert, removedBy, after-remove, acted, capacity, after-make, reserve, copy, after-copy, ruleBy, rule, storeAll, missed, lacking, needs, union, after-union, gripOn, grip, occupied-get, after-set, occupied-remove, after-drop, goodFor, vacancy, vacant-insert, after-fill, or-insert, after-or-insert, insert-entry, after-insert-entry}
 use Rattle.model.specs.Calls
 use Rattle.model.specs.Walk.{Paced, pair, nothing, done, halts, step}
 use Rattle.model.specs.Machine.{makes, clears, capacities, lens, empties, reserves, gets, contains-keys, removes, entries, inserts, occupied-gets, occupied-removes, occupied-sets, vacant-inserts, or-inserts, insert-entries, Call, own, copies, unions, steps, Answer, refused, fine, number, truth, seen, spot, value, paced, report, World, tells, leaves, stepping, answer}
 use Rattle.model.specs.Demand1.{Row, row, First, none-applies, applies-here, goes-on, Absent, BadOnPath, BadSomewhere, sized-rows, count-rows, look-rows, place-rows, grip-rows, open-rows, rows, refusal}
-use Rattle.model.specs.Demand2.{plain, refuses, renews}
-use Rattle.model.specs.Demand3.{Event, unrefused, stepped, stateAfter, walkAfter}
-use Rattle.model.specs.Tables.{sweeps, tables, AllSound}
+use Rattle.model.specs.Demand2.{refuses, renews, EntryOf, is-occupied, is-vacant, is-full, is-tight}
+use Rattle.model.specs.Tables.{sweeps, Renewal}
 use Rattle.model.specs.Lawful.{Lawful, Healthy, Shows}
 use Rattle.model.proofs.Cases.{by-bool, by-lt, by-eq, both, clash}
 use Rattle.model.proofs.Slots.{put-same}
@@ -28,11 +27,11 @@ use Rattle.model.proofs.Sound.{sound-look, no-free-full, full-no-free}
 use Rattle.model.proofs.Pairs.{total-pairs}
 use Rattle.model.proofs.Accepted.{need-ok, pass-ok, seen-found, seen-absent, spot-occupied, spot-vacant, entry-spot, grip-live, occupied-grip, removed-grip, good-vacant}
 use Rattle.model.proofs.Shows.{home-below, shows-wipe, PathOf, here, gone, path-of, free-room, shows-unharmed}
-use Rattle.model.proofs.Agrees.{live-len, used-mass, len-high, used-high, get-agrees, length-is, reserve-is}
+use Rattle.model.proofs.Exact.{live-len, used-mass, len-high, used-high, seenFor, seen-is, length-is, reserve-is}
 use Rattle.model.proofs.Keeps.{path-free, insert-shows, remove-shows, set-shows, drop-shows}
 use Rattle.model.proofs.Walk.{Strode, strode-pair, strode-nothing, strode-done, strode}
 use Rattle.model.proofs.Union.{union-shows}
-use Rattle.model.proofs.Tables.{healthy-shows, walk-kept}
+use Rattle.model.proofs.Tables.{healthy-shows}
 use Rattle.model.proofs.Demand1.{Told, told-hit, told-miss, told-hurt, told, entry-clear, demand-1}
 
 module _ {A : Type 0} where
@@ -57,6 +56,19 @@ refused-with (seen x) e = clash cc
 refused-with (spot x) e = clash cc
 refused-with (value x) e = clash cc
 refused-with (paced x) e = clash cc
+
+-- an answer that passed is the answer
+pass-said : {A : Type 0} (n : ℕ) (a b : A) → pass n (ok a) ≡ ok b → a ≡ b
+unfolding pass
+pass-said zero a b e = cc
+pass-said (suc n) a b e = clash cc
+
+-- what a lookup answers by the map's word says that word
+seen-said : {K W : Type 0} (M : Store K W) (m : M .State) (k : K) (n : ℕ) (o : Option W) → lookupOf (pass n (ok (seenFor M m k o))) ≡ pass n (ok o)
+unfolding lookupOf pass seenFor
+seen-said M m k zero none = refl
+seen-said M m k zero (some v) = refl
+seen-said M m k (suc n) o = refl
 
 -- an answer is a refusal exactly when it is a refusal's number and nothing else
 pub refuses-is : {K W : Type 0} (a : Answer K W) → (refuses a ≡ true) ↔ ((n : ℕ) × (a ≡ refused n))
@@ -260,7 +272,7 @@ module _ {K W : Type 0} (M : Store K W) where
 -- On any memory of a lawful store.
 module _ {K W : Type 0} (M : Store K W) (L : Lawful M) where
   -- making gives a sound table with no key
-  pub make-sound : (m : M .State) → M .sized m ≡ true → Shows M L (after-make M m) empty
+  pub make-sound : (m : M .State) → M .sized m ≡ true → Shows M (after-make M m) empty
   unfolding after-make capacity need acted
   make-sound m z = rw z (shows-wipe M L m z)
 
@@ -283,20 +295,20 @@ module _ {K W : Type 0} (M : Store K W) (L : Lawful M) where
   make-never m i z = rw (z, L .wipe-wrote m z .slots)
 
   -- a union keeps a sound left sound, whatever the right
-  pub union-keeps-sound : (l r : M .State) → Healthy M L l → Healthy M L (after-union M l r)
+  pub union-keeps-sound : (l r : M .State) → Healthy M l → Healthy M (after-union M l r)
   unfolding after-union acted
   union-keeps-sound l r h = go (union M l r) refl
     where
-      go : (a : Or (Unit {0})) → union M l r ≡ a → Healthy M L (acted M l a (storeAll M l (pairs (M .slots r) (M .size r))))
+      go : (a : Or (Unit {0})) → union M l r ≡ a → Healthy M (acted M l a (storeAll M l (pairs (M .slots r) (M .size r))))
       go (no n) e = h
       go (ok u) e = union-shows M L l r (finiteOf (M .keys) (M .slots l) (M .size l)) (healthy-shows M L l h) u e .healthy
 
   -- a copy is sound where its source is, with the same map
-  pub copy-sound : (m n : M .State) (g : Finite K W) (u : Unit {0}) → Shows M L n g → copy M m n ≡ ok u → Shows M L (after-copy M m n) g
+  pub copy-sound : (m n : M .State) (g : Finite K W) (u : Unit {0}) → Shows M n g → copy M m n ≡ ok u → Shows M (after-copy M m n) g
   copy-sound m n g u t e = rw (copy-equals M m n u e) t
 
 -- On a sound memory that shows the map f.
-module _ {K W : Type 0} (M : Store K W) (L : Lawful M) (m : M .State) (f : Finite K W) (s : Shows M L m f) where
+module _ {K W : Type 0} (M : Store K W) (L : Lawful M) (m : M .State) (f : Finite K W) (s : Shows M m f) where
   -- get says found, with the map's value, its slot, and the path's own examined number
   pub get-found : (k : K) (v : W) → M .asked k ≡ 0 → f .look k ≡ some v → (i : ℕ) × (M .slots m i ≡ live k v) × (get M m k ≡ ok (found v i (pathLength M m k)))
   unfolding get need pass seenBy path pathLength
@@ -319,12 +331,12 @@ module _ {K W : Type 0} (M : Store K W) (L : Lawful M) (m : M .State) (f : Finit
       go (gone p q) = rw (s .healthy .sized, a, p)
 
   -- an accepted insert maps the key to the value, and nothing else
-  pub insert-map : (k : K) (v : W) (x : Spot W) → entry M m k ≡ ok x → Shows M L (after-insert M m k v) (insert (M .keys) f k v)
+  pub insert-map : (k : K) (v : W) (x : Spot W) → entry M m k ≡ ok x → Shows M (after-insert M m k v) (insert (M .keys) f k v)
   unfolding report refuses
   insert-map k v x e = rw e at (insert-shows M L m f s k v)
 
   -- an accepted remove takes the key out, and nothing else
-  pub remove-map : (k : K) (x : Seen W) → Calls.remove M m k ≡ ok x → Shows M L (after-remove M m k) (remove (M .keys) f k)
+  pub remove-map : (k : K) (x : Seen W) → Calls.remove M m k ≡ ok x → Shows M (after-remove M m k) (remove (M .keys) f k)
   unfolding report refuses
   remove-map k x e = rw e at (remove-shows M L m f s k)
 
@@ -343,7 +355,7 @@ module _ {K W : Type 0} (M : Store K W) (L : Lawful M) (m : M .State) (f : Finit
       sym (s .looks k) ∙ sound-look (M .keys) (M .size m) (M .home m) (home-below M L m (s .healthy)) (M .slots m) (s .healthy .sound) k i v l c
 
   -- its set maps the key to the new value
-  pub occupied-set-map : (i : ℕ) (k : K) (v w : W) → occupied-get M m i k ≡ ok w → Shows M L (after-set M m i k v) (insert (M .keys) f k v)
+  pub occupied-set-map : (i : ℕ) (k : K) (v w : W) → occupied-get M m i k ≡ ok w → Shows M (after-set M m i k v) (insert (M .keys) f k v)
   unfolding after-set acted
   occupied-set-map i k v w e = rw e (set-shows M L m f s i k v w e)
 
@@ -359,7 +371,7 @@ module _ {K W : Type 0} (M : Store K W) (L : Lawful M) (m : M .State) (f : Finit
       asked-none q = pass-ok (M .asked k) (grip M m i k) w (need-ok (M .sized m) 1 (pass (M .asked k) (grip M m i k)) w q .1) .0
 
   -- its remove answers the map's value and takes the key out
-  pub occupied-remove-map : (i : ℕ) (k : K) (w : W) → occupied-remove M m i k ≡ ok w → (f .look k ≡ some w) × Shows M L (after-drop M m i k) (remove (M .keys) f k)
+  pub occupied-remove-map : (i : ℕ) (k : K) (w : W) → occupied-remove M m i k ≡ ok w → (f .look k ≡ some w) × Shows M (after-drop M m i k) (remove (M .keys) f k)
   unfolding after-drop acted
   occupied-remove-map i k w e =
       let (l, c) = grip-live M m k i w (removed-grip M m k i w e) in
@@ -393,6 +405,33 @@ module _ {K W : Type 0} (M : Store K W) (L : Lawful M) (m : M .State) (f : Finit
     (λ h. is-empty-is ∙ ap (λ b. truth b) (eq-eqb (len f) 0 (keyless (f .dom) (λ k. s .proper .listed k ∙ ap (λ o. isSome o) (h k))))),
   )
 
+  -- get says of a key what the map says, in both directions: found with its value, or absent
+  pub get-looks : (k : K) → lookupOf (get M m k) ≡ pass (M .asked k) (ok (f .look k))
+  unfolding get need pass lookupOf seenFor
+  get-looks k = rw (s .healthy .sized, seen-is M L m f s k) (seen-said M m k (M .asked k) (f .look k))
+
+  -- what get says is so in the map: found with that value, or absent
+  pub get-found-map : (k : K) (v : W) (i e : ℕ) → get M m k ≡ ok (found v i e) → f .look k ≡ some v
+  unfolding lookupOf
+  get-found-map k v i e q = pass-said (M .asked k) (f .look k) (some v) (sym (get-looks k) ∙ ap (λ a. lookupOf a) q)
+
+  pub get-absent-map : (k : K) (e : ℕ) → get M m k ≡ ok (absent e) → f .look k ≡ none
+  unfolding lookupOf
+  get-absent-map k e q = pass-said (M .asked k) (f .look k) none (sym (get-looks k) ∙ ap (λ a. lookupOf a) q)
+
+  -- and so it is with remove
+  pub remove-looks : (k : K) → lookupOf (Calls.remove M m k) ≡ pass (M .asked k) (ok (f .look k))
+  unfolding Calls.remove need pass lookupOf seenFor
+  remove-looks k = rw (s .healthy .sized, shows-unharmed M L m f s, seen-is M L m f s k) (seen-said M m k (M .asked k) (f .look k))
+
+  pub remove-found-map : (k : K) (v : W) (i e : ℕ) → Calls.remove M m k ≡ ok (found v i e) → f .look k ≡ some v
+  unfolding lookupOf
+  remove-found-map k v i e q = pass-said (M .asked k) (f .look k) (some v) (sym (remove-looks k) ∙ ap (λ a. lookupOf a) q)
+
+  pub remove-absent-map : (k : K) (e : ℕ) → Calls.remove M m k ≡ ok (absent e) → f .look k ≡ none
+  unfolding lookupOf
+  remove-absent-map k e q = pass-said (M .asked k) (f .look k) none (sym (remove-looks k) ∙ ap (λ a. lookupOf a) q)
+
   -- there are at most S keys
   pub len-within : len f ≤ M .size m
   unfolding len
@@ -406,22 +445,15 @@ module _ {K W : Type 0} (M : Store K W) (L : Lawful M) (m : M .State) (f : Finit
     (λ l. reserve-is M L m f s n ∙ rw (le-leb n (M .size m - len f) (omega arith))),
   )
 
-  -- insert and entry, by the map and the room: occupied; vacant; all slots live; or the key's bytes do not fit
-  pub data EntryOf (k : K) : Type 0 where
-    is-occupied : (i : ℕ) (v : W) → f .look k ≡ some v → M .slots m i ≡ live k v → entry M m k ≡ ok (occupied i v (pathLength M m k)) → EntryOf k
-    is-vacant : (i : ℕ) → f .look k ≡ none → len f < M .size m → mass (M .weight) (f .dom) + M .weight k ≤ M .bytes m → entry M m k ≡ ok (vacant i (pathLength M m k)) → EntryOf k
-    is-full : f .look k ≡ none → len f ≡ M .size m → entry M m k ≡ no 7 → EntryOf k
-    is-tight : f .look k ≡ none → len f < M .size m → M .bytes m < mass (M .weight) (f .dom) + M .weight k → entry M m k ≡ no 8 → EntryOf k
-
-  -- one of these four it always is, for a key that is not itself refused
-  pub entry-of : (k : K) → M .kept k ≡ 0 → EntryOf k
+  -- insert and entry answer by the map and the room, for a key that is not itself refused
+  pub entry-of : (k : K) → M .kept k ≡ 0 → EntryOf M m f k
   unfolding spotBy need path pathLength
   entry-of k y = go (path-of M L m f s k)
     where
       told : entry M m k ≡ spotBy M m k (path M m k)
       told = entry-clear M m k (s .healthy .sized) y (shows-unharmed M L m f s)
 
-      go : PathOf M L m f s k → EntryOf k
+      go : PathOf M L m f s k → EntryOf M m f k
       go (here n v p e l q) = is-occupied (slotAt M m k n) v e q (told ∙ rw p (ap (λ x. ok (occupied (slotAt M m k n) v x)) (sym (hit-examined (M .keys) (M .size m) (M .home m k) (M .slots m) k n v p))))
       go (gone p e) = by-lt (freeAt (M .size m) (M .home m k) (M .slots m)) (M .size m)
           (λ l x. let c : len f < M .size m = omega (arith, free-room M L m f s k e l, live-len M L m f s) in
@@ -434,23 +466,23 @@ module _ {K W : Type 0} (M : Store K W) (L : Lawful M) (m : M .State) (f : Finit
   pub insert-refused : (k : K) (n : ℕ) → M .kept k ≡ 0 → (entry M m k ≡ no n) ↔ ((f .look k ≡ none) × (((n ≡ 7) × (len f ≡ M .size m)) ⊎ ((n ≡ 8) × (len f < M .size m) × (M .bytes m < mass (M .weight) (f .dom) + M .weight k))))
   insert-refused k n y = go (entry-of k y)
     where
-      go : EntryOf k → (entry M m k ≡ no n) ↔ ((f .look k ≡ none) × (((n ≡ 7) × (len f ≡ M .size m)) ⊎ ((n ≡ 8) × (len f < M .size m) × (M .bytes m < mass (M .weight) (f .dom) + M .weight k))))
+      go : EntryOf M m f k → (entry M m k ≡ no n) ↔ ((f .look k ≡ none) × (((n ≡ 7) × (len f ≡ M .size m)) ⊎ ((n ≡ 8) × (len f < M .size m) × (M .bytes m < mass (M .weight) (f .dom) + M .weight k))))
       go (is-occupied i v e q r) = ((λ c. clash cc), (λ (c, d). clash cc))
       go (is-vacant i e l u r) = ((λ c. clash cc), (λ (c, d). absurd (⊎-elim (λ x. omega arith) (λ x. omega arith) d)))
       go (is-full e l r) = ((λ c. (e, inl (cc, l))), (λ (c, d). ⊎-elim (λ x. r ∙ ap (λ i. no i) (sym (x .0))) (λ x. absurd (omega arith)) d))
       go (is-tight e l u r) = ((λ c. (e, inr (cc, l, u))), (λ (c, d). ⊎-elim (λ x. absurd (omega arith)) (λ x. r ∙ ap (λ i. no i) (sym (x .0))) d))
 
 -- Get after insert and after remove, on a sound memory that shows the map f.
-module _ {K W : Type 0} (M : Store K W) (L : Lawful M) (m : M .State) (f : Finite K W) (s : Shows M L m f) (k : K) where
+module _ {K W : Type 0} (M : Store K W) (L : Lawful M) (m : M .State) (f : Finite K W) (s : Shows M m f) (k : K) where
   -- the same key: found with the new value
   pub get-after-insert : (v : W) (x : Spot W) → entry M m k ≡ ok x → M .asked k ≡ 0 → (i : ℕ) × (get M (after-insert M m k v) k ≡ ok (found v i (pathLength M (after-insert M m k v) k)))
   unfolding insert
   get-after-insert v x e a = let (i, c, g) = get-found M L (after-insert M m k v) (insert (M .keys) f k v) (insert-map M L m f s k v x e) k v a (rw (M .keys .self k)) in (i, g)
 
   -- every other key: as before
-  pub get-other-after-insert : (v : W) (x : Spot W) → entry M m k ≡ ok x → (a : K) → M .keys .same a k ≡ false → plain (report {K = K} seen (get M (after-insert M m k v) a)) ≡ plain (report {K = K} seen (get M m a))
+  pub get-other-after-insert : (v : W) (x : Spot W) → entry M m k ≡ ok x → (a : K) → M .keys .same a k ≡ false → lookupOf (get M (after-insert M m k v) a) ≡ lookupOf (get M m a)
   unfolding insert
-  get-other-after-insert v x e a h = get-agrees M L (after-insert M m k v) (insert (M .keys) f k v) (insert-map M L m f s k v x e) a ∙ rw h (sym (get-agrees M L m f s a))
+  get-other-after-insert v x e a h = get-looks M L (after-insert M m k v) (insert (M .keys) f k v) (insert-map M L m f s k v x e) a ∙ rw h (sym (get-looks M L m f s a))
 
   -- the same key: absent
   pub get-after-remove : (x : Seen W) → Calls.remove M m k ≡ ok x → M .asked k ≡ 0 → get M (after-remove M m k) k ≡ ok (absent (pathLength M (after-remove M m k) k))
@@ -458,9 +490,9 @@ module _ {K W : Type 0} (M : Store K W) (L : Lawful M) (m : M .State) (f : Finit
   get-after-remove x e a = get-absent M L (after-remove M m k) (remove (M .keys) f k) (remove-map M L m f s k x e) k a (rw (M .keys .self k))
 
   -- every other key: as before
-  pub get-other-after-remove : (x : Seen W) → Calls.remove M m k ≡ ok x → (a : K) → M .keys .same a k ≡ false → plain (report {K = K} seen (get M (after-remove M m k) a)) ≡ plain (report {K = K} seen (get M m a))
+  pub get-other-after-remove : (x : Seen W) → Calls.remove M m k ≡ ok x → (a : K) → M .keys .same a k ≡ false → lookupOf (get M (after-remove M m k) a) ≡ lookupOf (get M m a)
   unfolding remove
-  get-other-after-remove x e a h = get-agrees M L (after-remove M m k) (remove (M .keys) f k) (remove-map M L m f s k x e) a ∙ rw h (sym (get-agrees M L m f s a))
+  get-other-after-remove x e a h = get-looks M L (after-remove M m k) (remove (M .keys) f k) (remove-map M L m f s k x e) a ∙ rw h (sym (get-looks M L m f s a))
 
 -- no row of the list with the number 5 applies
 data Calm : List Row → Type 1 where
@@ -483,7 +515,7 @@ first-calm (goes-on q f) (other-number h c) e = first-calm f c e
 first-calm (goes-on q f) (no-damage h c) e = first-calm f c e
 
 module _ {K W : Type 0} (M : Store K W) (L : Lawful M) (asked-else : (k : K) → M .asked k ≡ 5 → ⊥) (kept-else : (k : K) → M .kept k ≡ 5 → ⊥) where
-  module _ (m : M .State) (h : Healthy M L m) where
+  module _ (m : M .State) (h : Healthy M m) where
     no-bad-somewhere : BadSomewhere M m → ⊥
     no-bad-somewhere (i, l, e) = h .sound .whole i l e
 
@@ -519,7 +551,7 @@ module _ {K W : Type 0} (M : Store K W) (L : Lawful M) (asked-else : (k : K) →
     open-calm : (i : ℕ) (k : K) → Calm (open-rows M m i k)
     open-calm i k = other (λ e. omega arith) (other (kept-else k) (whole (no-harm-on-path k) (other (λ e. omega arith) calm-end)))
 
-  calm : (w : World M) → ((y : ℕ) → Healthy M L (w y)) → (x : ℕ) (c : Call K W) → Calm (rows M w x c)
+  calm : (w : World M) → ((y : ℕ) → Healthy M (w y)) → (x : ℕ) (c : Call K W) → Calm (rows M w x c)
   calm w h x (own makes) = sized-calm (w x) (h x)
   calm w h x (own clears) = sized-calm (w x) (h x)
   calm w h x (own capacities) = sized-calm (w x) (h x)
@@ -544,16 +576,11 @@ module _ {K W : Type 0} (M : Store K W) (L : Lawful M) (asked-else : (k : K) →
   calm w h x (steps a b) = other (λ e. omega arith) (other (λ e. omega arith) (other (λ e. omega arith) (whole (λ (j, u, l, v, q, r). h x .sound .whole j l q) calm-end)))
 
   -- a sound table never answers 5, whatever the call (where a key itself is not refused with 5)
-  pub sound-never-5 : (w : World M) → ((y : ℕ) → Healthy M L (w y)) → (x : ℕ) (c : Call K W) → refusal (answer M w x c) ≡ 5 → ⊥
+  pub sound-never-5 : (w : World M) → ((y : ℕ) → Healthy M (w y)) → (x : ℕ) (c : Call K W) → refusal (answer M w x c) ≡ 5 → ⊥
   sound-never-5 w h x c e = first-calm (demand-1 M (L .homes) w x c) (calm w h x c) e
 
--- What the walk of demand 3 is made of.
 module _ {K W : Type 0} (M : Store K W) where
-  -- make, clear, or a copy onto the table
-  abbrev pub Renewal : Call K W → Type 0
-  Renewal c = (c ≡ own makes) ⊎ ((c ≡ own clears) ⊎ ((y : ℕ) × (c ≡ copies y)))
-
-  swept : (c : Call K W) → sweeps M c ≡ true → Renewal c
+  swept : (c : Call K W) → sweeps M c ≡ true → Renewal M c
   unfolding sweeps renews
   swept (own makes) e = inl refl
   swept (own clears) e = inr (inl refl)
@@ -576,31 +603,15 @@ module _ {K W : Type 0} (M : Store K W) where
   swept (unions y) e = clash cc
   swept (steps a b) e = clash cc
 
-  sweeping : (c : Call K W) → Renewal c → sweeps M c ≡ true
+  sweeping : (c : Call K W) → Renewal M c → sweeps M c ≡ true
   unfolding sweeps renews
   sweeping c (inl e) = rw e
   sweeping c (inr (inl e)) = rw e
   sweeping c (inr (inr (y, e))) = rw e
 
-  -- what counts as removing every key of the walked table: an accepted make, clear, or copy onto it, and no other call
-  pub wipes-exactly : (x S : ℕ) (w : World M) (c : ℕ × Call K W) → (tables M x S .wipes w c ≡ true) ↔ ((c .0 ≡ x) × Renewal (c .1) × (refuses (answer M w (c .0) (c .1)) ≡ false))
-  wipes-exactly x S w c = (
-    (λ e.
-        let (a, p) = both (eqb (c .0) x) (sweeps M (c .1) && not (refuses (answer M w (c .0) (c .1)))) e in
-        let (b, r) = both (sweeps M (c .1)) (not (refuses (answer M w (c .0) (c .1)))) p in
-        (eqb-true (c .0) x a, swept (c .1) b, not-true (refuses (answer M w (c .0) (c .1))) r)),
-    (λ (a, b, r). rw (eq-eqb (c .0) x a, sweeping (c .1) b, r)),
-  )
-
-  module _ (L : Lawful M) (x S : ℕ) (w : World M) (f : AllSound M L x S w) where
-    -- a step of that walk is the published step of the table
-    pub walk-steps-alike : (a b : ℕ) → stepped (tables M x S) w tt a b ≡ stepping M (w x) a b
-    unfolding stepped stepping need
-    walk-steps-alike a b = rw (f .healthy x .sized, f .sized)
-
-    -- a step with a budget is never refused, whatever calls came before
-    pub walk-never-refused : (es : List (Event (ℕ × Call K W))) (b : ℕ) → 0 < b → unrefused (stepped (tables M x S) (stateAfter (tables M x S) w es) tt (walkAfter (tables M x S) w tt 0 es) b) ≡ 1
-    walk-never-refused es b l = walk-kept M L x S w f .going es b l refl
+  -- what counts as removing every key of the walked table: make, clear, or copy onto it, and no other call
+  pub sweeps-exactly : (c : Call K W) → (sweeps M c ≡ true) ↔ Renewal M c
+  sweeps-exactly c = (swept c, sweeping c)
 
 -- A step of a walk, on any memory.
 module _ {K W : Type 0} (M : Store K W) (m : M .State) (a b : ℕ) where

@@ -10,7 +10,7 @@ use Rattle.model.specs.Store.{Store}
 use Rattle.model.specs.Calls.{Or, no, ok, give, Seen, Spot, on-occupied, on-vacant, entry, storedBy, after-insert, remove, removedBy, after-remove, acted, capacity, after-make, copy, after-copy, union, after-union, occupied-get, after-set, occupied-remove, after-drop, vacancy, vacant-insert, after-fill, or-insert, after-or-insert, insert-entry, after-insert-entry}
 use Rattle.model.specs.Machine.{Own, makes, clears, capacities, lens, empties, reserves, gets, contains-keys, removes, entries, inserts, occupied-gets, occupied-removes, occupied-sets, vacant-inserts, or-inserts, insert-entries, Call, own, copies, unions, steps, Answer, fine, seen, spot, value, report, World, tells, leaves, answer, left}
 use Rattle.model.specs.Demand2.{refuses}
-use Rattle.model.specs.Demand1.{Row, row, First, none-applies, applies-here, goes-on, Applies, Least, Rising, rises-end, rises, refusal, rows}
+use Rattle.model.specs.Demand1.{Row, row, First, none-applies, applies-here, goes-on, Applies, Least, Rising, rises-end, rises, KeyBar, refusal, rows}
 use Rattle.model.proofs.Demand1.{demand-1}
 
 rising-above : (rs : List Row) (a i : ℕ) → Rising a rs → Applies rs i → a < i
@@ -29,10 +29,6 @@ first-least rs n a (applies-here p) (rises h r) i (inl x) = (h p, omega (arith, 
 first-least rs n a (applies-here {rs = qs} p) (rises h r) i (inr x) = (h p, omega (arith, rising-above qs (max a n) i r x))
 first-least rs n a (goes-on q f) (rises h r) i (inl x) = absurd (q (x .0))
 first-least rs n a (goes-on {i = j} {rs = qs} q f) (rises h r) i (inr x) = let (u, v) = first-least qs n (max a j) f r i x in (omega arith, v)
-
--- a key has no refusal, or refusal 2
-abbrev pub KeyBar : ℕ → Type 0
-KeyBar n = (n ≡ 0) ⊎ (n ≡ 2)
 
 -- the constructor as a function, so that what is to be shown is known before its proof is read
 rise : {a n : ℕ} {P : Type 0} {rs : List Row} → (P → a < n) → Rising (max a n) rs → Rising a (row n P ∷ rs)

@@ -7,7 +7,7 @@ pub mod Change
 pub mod Finite
 pub mod Shows
 pub mod Accepted
-pub mod Agrees
+pub mod Exact
 pub mod Keeps
 pub mod Pairs
 pub mod Union
@@ -22,3 +22,4 @@ pub mod Least
 pub mod Laws
 pub mod Running
 pub mod Places
+pub mod Numbered

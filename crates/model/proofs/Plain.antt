@@ -12,7 +12,8 @@ use Rattle.model.specs.Plain.{Plain, revalued, reslotted, plain}
 use Rattle.model.proofs.Cases.{by-lt, clash}
 use Rattle.model.proofs.Slots.{total-put}
 use Rattle.model.proofs.Finite.{total-dead}
-use Rattle.model.proofs.Laws.{make-sound, EntryOf, is-occupied, is-vacant, is-full, is-tight, entry-of, get-after-insert}
+use Rattle.model.specs.Demand2.{EntryOf, is-occupied, is-vacant, is-full, is-tight}
+use Rattle.model.proofs.Laws.{make-sound, entry-of, get-after-insert}
 
 -- a value put over a slot that is not live changes nothing
 pub revalued-dead : {K W : Type 0} (s : Slot K W) (v : W) → ((a : K) (w : W) → s ≡ live a w → ⊥) → revalued s v ≡ s
@@ -23,18 +24,14 @@ revalued-dead bad v h = refl
 revalued-dead (live a w) v h = absurd (h a w refl)
 
 module _ {K W : Type 0} (E : Keys K) (weight : K → ℕ) where
-  abbrev Fits : Plain K W → Type 0
-  Fits m = total weight (m .slots) (m .size) ≤ m .bytes
-
   -- new slots that fit are a write
-  wrote : (m : Plain K W) (t : Table K W) → total weight t (m .size) ≤ m .bytes → Wrote (plain E weight) Fits m (reslotted m t) t
+  wrote : (m : Plain K W) (t : Table K W) → total weight t (m .size) ≤ m .bytes → Wrote (plain {W = W} E weight) (plain {W = W} E weight .good) m (reslotted m t) t
   unfolding reslotted
   wrote m t l = record { slots = refl; size = refl; home = refl; bytes = refl; sized = refl; good = l }
 
   pub plain-lawful : Lawful (plain {W = W} E weight)
   unfolding used frees weigh revalued made
   plain-lawful = record {
-    Good = Fits;
     homes = λ m k e. by-lt (m .home k) (m .size) (λ l x. rw x l) (λ l x. rw x (ltb-true 0 (m .size) e));
     unharmed = λ m e g s. le-ltb (m .bytes) (total weight (m .slots) (m .size)) g;
     within = λ m e g. g;
@@ -57,10 +54,10 @@ module _ {K W : Type 0} (E : Keys K) (weight : K → ℕ) where
       made-one : Plain K W
       made-one = after-make (plain E weight) m
 
-      shown : Shows (plain E weight) plain-lawful made-one empty
+      shown : Shows (plain E weight) made-one empty
       shown = make-sound (plain E weight) plain-lawful m (lt-ltb 0 (m .size) l)
 
-      go : EntryOf (plain E weight) plain-lawful made-one empty shown k → (i e : ℕ) × (get (plain E weight) (after-insert (plain E weight) made-one k v) k ≡ ok (found v i e))
+      go : EntryOf (plain E weight) made-one empty k → (i e : ℕ) × (get (plain E weight) (after-insert (plain E weight) made-one k v) k ≡ ok (found v i e))
       go (is-occupied i w e q r) = clash cc
       go (is-vacant i e c d r) = let (j, g) = get-after-insert (plain E weight) plain-lawful made-one empty shown k v _ r refl in (j, _, g)
       go (is-full e c r) = absurd (omega (arith, made-sizes m l))

@@ -22,35 +22,35 @@ unfolding made holds
 made-look E S k = look-none E k made S (λ i l. refl)
 
 module _ {K W : Type 0} (M : Store K W) (L : Lawful M) where
-  pub home-below : (m : M .State) → Healthy M L m → (k : K) → M .home m k < M .size m
+  pub home-below : (m : M .State) → Healthy M m → (k : K) → M .home m k < M .size m
   home-below m h k = L .homes m k (h .sized)
 
   -- a write that leaves sound slots leaves a sound memory
-  wrote-healthy : (m n : M .State) (t : Table K W) → M .sized m ≡ true → Wrote M (L .Good) m n t → Sound (M .size m) (M .home m) t → Healthy M L n
+  wrote-healthy : (m n : M .State) (t : Table K W) → M .sized m ≡ true → Wrote M (M .good) m n t → Sound (M .size m) (M .home m) t → Healthy M n
   wrote-healthy m n t z w s = record {
     sized = w .sized ∙ z;
     good = w .good;
     sound = rw (w .slots, w .size, w .home) s;
   }
 
-  wrote-shows : (m n : M .State) (t : Table K W) (f : Finite K W) → M .sized m ≡ true → Wrote M (L .Good) m n t → Sound (M .size m) (M .home m) t → ((k : K) → look (M .keys) t (M .size m) k ≡ f .look k) → Proper (M .keys) f → Shows M L n f
+  wrote-shows : (m n : M .State) (t : Table K W) (f : Finite K W) → M .sized m ≡ true → Wrote M (M .good) m n t → Sound (M .size m) (M .home m) t → ((k : K) → look (M .keys) t (M .size m) k ≡ f .look k) → Proper (M .keys) f → Shows M n f
   wrote-shows m n t f z w s e p = record {
     healthy = wrote-healthy m n t z w s;
     looks = λ k. rw (w .slots, w .size) (e k);
     proper = p;
   }
 
-  pub shows-wipe : (m : M .State) → M .sized m ≡ true → Shows M L (M .wipe m) empty
+  pub shows-wipe : (m : M .State) → M .sized m ≡ true → Shows M (M .wipe m) empty
   unfolding empty
   shows-wipe m z = wrote-shows m (M .wipe m) made empty z (L .wipe-wrote m z) (made-sound (M .size m) (M .home m)) (λ k. made-look (M .keys) (M .size m) k) (empty-proper (M .keys))
 
-  module _ (m : M .State) (f : Finite K W) (s : Shows M L m f) where
+  module _ (m : M .State) (f : Finite K W) (s : Shows M m f) where
     -- the weights of the live keys are those of the map's keys
     pub shows-total : (g : K → ℕ) → total g (M .slots m) (M .size m) ≡ mass g (f .dom)
     unfolding contains
     shows-total g = total-mass g (M .keys) (M .size m) (f .dom) (M .slots m) (s .healthy .sound .once) (s .proper .once) (λ k. s .proper .listed k ∙ ap (λ o. isSome o) (sym (s .looks k)))
 
-    pub shows-over : (i : ℕ) (k : K) (v w : W) → i < M .size m → M .slots m i ≡ live k w → Shows M L (M .over m i v) (insert (M .keys) f k v)
+    pub shows-over : (i : ℕ) (k : K) (v w : W) → i < M .size m → M .slots m i ≡ live k w → Shows M (M .over m i v) (insert (M .keys) f k v)
     unfolding insert
     shows-over i k v w l e = wrote-shows m (M .over m i v) (put (M .slots m) i (live k v)) (insert (M .keys) f k v) (s .healthy .sized)
         (L .over-wrote m i k v w (s .healthy .sized) (s .healthy .good) l e)
@@ -58,7 +58,7 @@ module _ {K W : Type 0} (M : Store K W) (L : Lawful M) where
         (λ a. rw (replaced-look (M .keys) (M .size m) (M .home m) (home-below m (s .healthy)) (M .slots m) (s .healthy .sound) k i v w l e a, s .looks a))
         (insert-proper (M .keys) f k v (s .proper))
 
-    pub shows-free : (i : ℕ) (k : K) (w : W) → i < M .size m → M .slots m i ≡ live k w → Shows M L (M .free m i) (remove (M .keys) f k)
+    pub shows-free : (i : ℕ) (k : K) (w : W) → i < M .size m → M .slots m i ≡ live k w → Shows M (M .free m i) (remove (M .keys) f k)
     unfolding remove
     shows-free i k w l e = wrote-shows m (M .free m i) (put (M .slots m) i freed) (remove (M .keys) f k) (s .healthy .sized)
         (L .free-wrote m i k w (s .healthy .sized) (s .healthy .good) l e)
@@ -66,7 +66,7 @@ module _ {K W : Type 0} (M : Store K W) (L : Lawful M) where
         (λ a. rw (removed-look (M .keys) (M .size m) (M .slots m) (s .healthy .sound .once) k i w l e a, s .looks a))
         (remove-proper (M .keys) f k (s .proper))
 
-    pub shows-fill : (k : K) (v : W) → f .look k ≡ none → freeAt (M .size m) (M .home m k) (M .slots m) < M .size m → used M m + M .weight k ≤ M .bytes m → Shows M L (M .fill m (slotAt M m k (freeAt (M .size m) (M .home m k) (M .slots m))) k v) (insert (M .keys) f k v)
+    pub shows-fill : (k : K) (v : W) → f .look k ≡ none → freeAt (M .size m) (M .home m k) (M .slots m) < M .size m → used M m + M .weight k ≤ M .bytes m → Shows M (M .fill m (slotAt M m k (freeAt (M .size m) (M .home m k) (M .slots m))) k v) (insert (M .keys) f k v)
     unfolding insert slotAt
     shows-fill k v e l u =
         let i : ℕ = at (M .size m) (M .home m k) (freeAt (M .size m) (M .home m k) (M .slots m)) in

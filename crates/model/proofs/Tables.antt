@@ -1,4 +1,4 @@
--- Demand 3 for the tables of any lawful store: every call keeps them sound, and no call but make, clear and copy moves a key.
+-- The tables of any lawful store, for demand 3: what is known of them stays so, and no call but make, clear and copy moves a key of a known table.
 use Prim.Native.Nat.{ℕ, zero, suc, _+_, _≤_, _<_}
 use mathlib.Core.Bool.{Bool, true, false, cond, not, _&&_}
 use mathlib.Core.List.{List, [], _∷_, _++_}
@@ -7,15 +7,17 @@ use mathlib.Core.Option.{Option, none, some}
 use native.Mathlib.Omega.{arith}
 use borrow.Author.Tests.{eqb-true, eq-eqb}
 use lib.Dec.{eqb}
-use Rattle.model.specs.Slots.{Slot, never, freed, bad, live, Table, Keys, put, frees, pairOf, pairs, look}
-use Rattle.model.specs.Finite.{Finite, isSome, contains, mass, insert, member, Once, once-none, once-more, Proper, firsts, lastIn, orElse, finiteOf}
+use Rattle.model.specs.Slots.{Slot, never, freed, bad, live, Table, Keys, put, frees, count, pairOf, pairs, look}
+use Rattle.model.specs.Finite.{Finite, isSome, contains, mass, len, insert, member, Once, once-none, once-more, Proper, firsts, lastIn, orElse, finiteOf}
 use Rattle.model.specs.Path.{at, freeAt}
-use Rattle.model.specs.Store.{Store, path, slotAt, used}
+use Rattle.model.specs.Store.{Store, path, slotAt, live-count, used}
 use Rattle.model.specs.Calls.{Or, no, ok, Seen, found, absent, Spot, occupied, vacant, on-occupied, on-vacant, spotBy, entry, storedBy, after-insert, need, capacity, after-make, copy, after-copy, union, after-union, remove, removedBy, after-remove, acted, ruleBy, rule, storeAll, occupied-get, after-set, occupied-remove, after-drop, vacancy, after-fill, after-or-insert, after-insert-entry}
-use Rattle.model.specs.Machine.{Own, makes, clears, capacities, lens, empties, reserves, gets, contains-keys, removes, entries, inserts, occupied-gets, occupied-removes, occupied-sets, vacant-inserts, or-inserts, insert-entries, Call, own, copies, unions, steps, World, placed, fine, report, leaves, answer, left, turned}
-use Rattle.model.specs.Demand2.{renews, refuses}
-use Rattle.model.specs.Demand3.{Walked, Orderly}
-use Rattle.model.specs.Tables.{sweeps, tables, AllSound}
+use Rattle.model.specs.Machine.{Own, makes, clears, capacities, lens, empties, reserves, gets, contains-keys, removes, entries, inserts, occupied-gets, occupied-removes, occupied-sets, vacant-inserts, or-inserts, insert-entries, Call, own, copies, unions, steps, World, placed, fine, report, leaves, stepping, answer, left, turned}
+use Rattle.model.specs.Demand2.{renews, refuses, becomes, Book, booked}
+use Rattle.model.specs.Walk.{step}
+use Rattle.model.specs.Demand3.{lookIn}
+use Rattle.model.proofs.Demand2.{left-shows}
+use Rattle.model.specs.Tables.{sweeps, Sure}
 use Rattle.model.specs.Lawful.{Lawful, Healthy, Shows}
 use Rattle.model.proofs.Cases.{by-eq, by-same, clash}
 use Rattle.model.proofs.Slots.{by-put, look-some}
@@ -25,8 +27,8 @@ use Rattle.model.proofs.Path.{at-below, free-here}
 use Rattle.model.proofs.Change.{removed-look}
 use Rattle.model.proofs.Sound.{once-look}
 use Rattle.model.proofs.Shows.{home-below}
+use Rattle.model.proofs.Exact.{live-len}
 use Rattle.model.proofs.Keeps.{by-renews, path-live, path-free, own-shows}
-use Rattle.model.proofs.Demand3.{demand-3}
 use Rattle.model.proofs.Union.{rule-shows, Ruled, ruled-over, ruled-fill, rule-cases, union-room, union-shows}
 use Rattle.model.proofs.Accepted.{need-ok, seen-found, spot-occupied, spot-vacant, grip-live, good-vacant, entry-spot, remove-seen, occupied-grip, removed-grip, vacancy-good}
 
@@ -81,7 +83,7 @@ module _ {K W : Type 0} (E : Keys K) where
 
 module _ {K W : Type 0} (M : Store K W) (L : Lawful M) where
   -- a sound memory shows the finite map of its slots
-  pub healthy-shows : (m : M .State) → Healthy M L m → Shows M L m (finiteOf (M .keys) (M .slots m) (M .size m))
+  pub healthy-shows : (m : M .State) → Healthy M m → Shows M m (finiteOf (M .keys) (M .slots m) (M .size m))
   unfolding finiteOf
   healthy-shows m h = record { healthy = h; looks = λ k. refl; proper = finite-proper (M .keys) (M .size m) (M .slots m) (h .sound .once) }
 
@@ -101,17 +103,17 @@ module _ {K W : Type 0} (M : Store K W) (L : Lawful M) where
   frees-dead s k v a b = let q : _≡_ {A = Bool} true false = sym a ∙ ap frees b in clash cc
 
   -- a value set or a slot taken leaves every live slot its key
-  over-live : (m : M .State) → Healthy M L m → (j : ℕ) (a : K) (x y : W) → j < M .size m → M .slots m j ≡ live a y → (i : ℕ) (k : K) (v : W) → M .slots m i ≡ live k v → (u : W) × (M .slots (M .over m j x) i ≡ live k u)
+  over-live : (m : M .State) → Healthy M m → (j : ℕ) (a : K) (x y : W) → j < M .size m → M .slots m j ≡ live a y → (i : ℕ) (k : K) (v : W) → M .slots m i ≡ live k v → (u : W) × (M .slots (M .over m j x) i ≡ live k u)
   over-live m h j a x y c d i k v p = rw (L .over-wrote m j a x y (h .sized) (h .good) c d .slots) (by-put (M .slots m) j (live a x) i
       (λ z r. let s : live k v ≡ live a y = sym p ∙ ap (M .slots m) z ∙ d in (x, r ∙ ap (λ b. live b x) (cc)))
       (λ z r. (v, r ∙ p)))
 
-  fill-live : (m : M .State) → Healthy M L m → (j : ℕ) (a : K) (x : W) → j < M .size m → frees (M .slots m j) ≡ true → used M m + M .weight a ≤ M .bytes m → (i : ℕ) (k : K) (v : W) → M .slots m i ≡ live k v → (u : W) × (M .slots (M .fill m j a x) i ≡ live k u)
+  fill-live : (m : M .State) → Healthy M m → (j : ℕ) (a : K) (x : W) → j < M .size m → frees (M .slots m j) ≡ true → used M m + M .weight a ≤ M .bytes m → (i : ℕ) (k : K) (v : W) → M .slots m i ≡ live k v → (u : W) × (M .slots (M .fill m j a x) i ≡ live k u)
   fill-live m h j a x c d b i k v p = rw (L .fill-wrote m j a x (h .sized) (h .good) c d b .slots) (by-put (M .slots m) j (live a x) i
       (λ z r. absurd (frees-dead (M .slots m i) k v (rw z d) p))
       (λ z r. (v, r ∙ p)))
 
-  changed-stood : (m n : M .State) → Healthy M L m → Changed m n → Stood m n × (M .size n ≡ M .size m)
+  changed-stood : (m n : M .State) → Healthy M m → Changed m n → Stood m n × (M .size n ≡ M .size m)
   changed-stood m n h (same e) = ((λ i k v w l p q. (v, (rw e p))), rw e)
   changed-stood m n h (set-value j a x y c d e) = rw e ((λ i k v w l p q. over-live m h j a x y c d i k v p), L .over-wrote m j a x y (h .sized) (h .good) c d .size)
   changed-stood m n h (took-slot j a x c d u e) = rw e ((λ i k v w l p q. fill-live m h j a x c d u i k v p), L .fill-wrote m j a x (h .sized) (h .good) c d u .size)
@@ -133,7 +135,7 @@ module _ {K W : Type 0} (M : Store K W) (L : Lawful M) where
   acted-changed m (no r) n h = same refl
   acted-changed m (ok u) n h = h u refl
 
-  module _ (m : M .State) (h : Healthy M L m) where
+  module _ (m : M .State) (h : Healthy M m) where
     spot-changed : (k : K) (v : W) (i e : ℕ) → spotBy M m k (path M m k) ≡ ok (vacant i e) → Changed m (M .fill m i k v)
     unfolding slotAt
     spot-changed k v i e q =
@@ -201,7 +203,7 @@ module _ {K W : Type 0} (M : Store K W) (L : Lawful M) where
     own-changed (insert-entries (on-occupied s) k v) e = set-changed s k v
     own-changed (insert-entries (on-vacant s) k v) e = fill-changed s k v
 
-  rule-live : (m : M .State) (f : Finite K W) (s : Shows M L m f) (a : K) (b : W) → mass (λ k. 1) (insert (M .keys) f a b .dom) ≤ M .size m → mass (M .weight) (insert (M .keys) f a b .dom) ≤ M .bytes m → (i : ℕ) (k : K) (v : W) → M .slots m i ≡ live k v → (u : W) × (M .slots (rule M m a b) i ≡ live k u)
+  rule-live : (m : M .State) (f : Finite K W) (s : Shows M m f) (a : K) (b : W) → mass (λ k. 1) (insert (M .keys) f a b .dom) ≤ M .size m → mass (M .weight) (insert (M .keys) f a b .dom) ≤ M .bytes m → (i : ℕ) (k : K) (v : W) → M .slots m i ≡ live k v → (u : W) × (M .slots (rule M m a b) i ≡ live k u)
   unfolding rule
   rule-live m f s a b x y i k v e = ruled (rule-cases M L m f s a b x y)
     where
@@ -210,7 +212,7 @@ module _ {K W : Type 0} (M : Store K W) (L : Lawful M) where
       ruled (ruled-fill n l q u r) = rw r (fill-live m (s .healthy) (slotAt M m a n) a b l q u i k v e)
 
   -- union's rule, pair by pair, leaves every live slot its key
-  all-live : (ps : List (K × W)) (m : M .State) (f : Finite K W) → Shows M L m f → mass (λ k. 1) (f .dom) + mass (λ k. cond (contains f k) 0 1) (firsts ps) ≤ M .size m → mass (M .weight) (f .dom) + mass (λ k. cond (contains f k) 0 (M .weight k)) (firsts ps) ≤ M .bytes m → (M .size (storeAll M m ps) ≡ M .size m) × ((i : ℕ) (k : K) (v : W) → M .slots m i ≡ live k v → (u : W) × (M .slots (storeAll M m ps) i ≡ live k u))
+  all-live : (ps : List (K × W)) (m : M .State) (f : Finite K W) → Shows M m f → mass (λ k. 1) (f .dom) + mass (λ k. cond (contains f k) 0 1) (firsts ps) ≤ M .size m → mass (M .weight) (f .dom) + mass (λ k. cond (contains f k) 0 (M .weight k)) (firsts ps) ≤ M .bytes m → (M .size (storeAll M m ps) ≡ M .size m) × ((i : ℕ) (k : K) (v : W) → M .slots m i ≡ live k v → (u : W) × (M .slots (storeAll M m ps) i ≡ live k u))
   unfolding storeAll firsts mass
   all-live [] m f s a b = (refl, λ i k v e. (v, e))
   all-live (p ∷ ps) m f s a b =
@@ -222,15 +224,10 @@ module _ {K W : Type 0} (M : Store K W) (L : Lawful M) where
       (omega (arith, lacking-less (M .keys) (M .weight) f (p .0) (p .1) (firsts ps))) in
       (z ∙ x, λ i k v e. let (u, q) = rule-live m f s (p .0) (p .1) (omega arith) (omega arith) i k v e in r i k u q)
 
-  union-live : (l r : M .State) → Healthy M L l → (u : Unit {0}) → union M l r ≡ ok u → (M .size (storeAll M l (pairs (M .slots r) (M .size r))) ≡ M .size l) × ((i : ℕ) (k : K) (v : W) → M .slots l i ≡ live k v → (w : W) × (M .slots (storeAll M l (pairs (M .slots r) (M .size r))) i ≡ live k w))
+  union-live : (l r : M .State) → Healthy M l → (u : Unit {0}) → union M l r ≡ ok u → (M .size (storeAll M l (pairs (M .slots r) (M .size r))) ≡ M .size l) × ((i : ℕ) (k : K) (v : W) → M .slots l i ≡ live k v → (w : W) × (M .slots (storeAll M l (pairs (M .slots r) (M .size r))) i ≡ live k w))
   union-live l r h u e =
       let (a, b) = union-room M L l r (finiteOf (M .keys) (M .slots l) (M .size l)) (healthy-shows l h) u e in
       all-live (pairs (M .slots r) (M .size r)) l (finiteOf (M .keys) (M .slots l) (M .size l)) (healthy-shows l h) a b
-
-  acted-healthy : {A : Type 0} (m : M .State) (a : Or A) (n : M .State) → Healthy M L m → ((u : A) → a ≡ ok u → Healthy M L n) → Healthy M L (acted M m a n)
-  unfolding acted
-  acted-healthy m (no r) n h t = h
-  acted-healthy m (ok u) n h t = t u refl
 
   acted-size : {A : Type 0} (m : M .State) (a : Or A) (n : M .State) → ((u : A) → a ≡ ok u → M .size n ≡ M .size m) → M .size (acted M m a n) ≡ M .size m
   unfolding acted
@@ -248,24 +245,16 @@ module _ {K W : Type 0} (M : Store K W) (L : Lawful M) where
   unfolding after-make capacity
   made-size m = acted-size m (need (M .sized m) 1 (ok (M .size m))) (M .wipe m) (λ u e. L .wipe-wrote m (need-ok (M .sized m) 1 (ok (M .size m)) u e .0) .size)
 
-  own-size : (m : M .State) → Healthy M L m → (c : Own K W) → M .size (leaves M m c) ≡ M .size m
+  own-size : (m : M .State) → Healthy M m → (c : Own K W) → M .size (leaves M m c) ≡ M .size m
   own-size m h c = by-renews M m c (λ e. changed-stood m (leaves M m c) h (own-changed m h c e) .1) (λ e l t. rw l (made-size m))
 
-  -- every call keeps every table sound
-  pub left-healthy : (w : World M) → ((y : ℕ) → Healthy M L (w y)) → (x : ℕ) (c : Call K W) → Healthy M L (left M w x c)
-  unfolding left after-copy after-union
-  left-healthy w h x (own c) = own-shows M L (w x) (finiteOf (M .keys) (M .slots (w x)) (M .size (w x))) (healthy-shows (w x) (h x)) c .healthy
-  left-healthy w h x (copies y) = acted-healthy (w x) (copy M (w x) (w y)) (w y) (h x) (λ u e. h y)
-  left-healthy w h x (unions y) = acted-healthy (w x) (union M (w x) (w y)) (storeAll M (w x) (pairs (M .slots (w y)) (M .size (w y)))) (h x) (λ u e. union-shows M L (w x) (w y) (finiteOf (M .keys) (M .slots (w x)) (M .size (w x))) (healthy-shows (w x) (h x)) u e .healthy)
-  left-healthy w h x (steps a b) = h x
-
   -- every call keeps a table's number of slots
-  pub left-size : (w : World M) → ((y : ℕ) → Healthy M L (w y)) → (x : ℕ) (c : Call K W) → M .size (left M w x c) ≡ M .size (w x)
+  pub left-size : (w : World M) (x : ℕ) → Healthy M (w x) → (c : Call K W) → M .size (left M w x c) ≡ M .size (w x)
   unfolding left after-copy after-union
-  left-size w h x (own c) = own-size (w x) (h x) c
-  left-size w h x (copies y) = acted-size (w x) (copy M (w x) (w y)) (w y) (λ u e. copy-size (w x) (w y) u e)
-  left-size w h x (unions y) = acted-size (w x) (union M (w x) (w y)) (storeAll M (w x) (pairs (M .slots (w y)) (M .size (w y)))) (λ u e. union-live (w x) (w y) (h x) u e .0)
-  left-size w h x (steps a b) = refl
+  left-size w x h (own c) = own-size (w x) h c
+  left-size w x h (copies y) = acted-size (w x) (copy M (w x) (w y)) (w y) (λ u e. copy-size (w x) (w y) u e)
+  left-size w x h (unions y) = acted-size (w x) (union M (w x) (w y)) (storeAll M (w x) (pairs (M .slots (w y)) (M .size (w y)))) (λ u e. union-live (w x) (w y) h u e .0)
+  left-size w x h (steps a b) = refl
 
   -- a call that does not wipe moves no key that is still there
   stood-same : (m : M .State) → Stood m m
@@ -282,46 +271,74 @@ module _ {K W : Type 0} (M : Store K W) (L : Lawful M) where
   refused-stays m (no r) n e = refl
   refused-stays m (ok u) n e = clash cc
 
-  left-stood : (w : World M) → ((y : ℕ) → Healthy M L (w y)) → (x : ℕ) (c : Call K W) → (sweeps M c && not (refuses (answer M w x c))) ≡ false → Stood (w x) (left M w x c)
+  left-stood : (w : World M) (x : ℕ) → Healthy M (w x) → (c : Call K W) → (sweeps M c && not (refuses (answer M w x c))) ≡ false → Stood (w x) (left M w x c)
   unfolding sweeps answer left after-copy after-union after-make
-  left-stood w h x (own c) e = by-renews M (w x) c
-      (λ r. changed-stood (w x) (leaves M (w x) c) (h x) (own-changed (w x) (h x) c r) .0)
+  left-stood w x h (own c) e = by-renews M (w x) c
+      (λ r. changed-stood (w x) (leaves M (w x) c) h (own-changed (w x) h c r) .0)
       (λ r l t. rw (l, refused-stays (w x) (capacity M (w x)) (M .wipe (w x)) (rw (r, t) at e)) (stood-same (w x)))
-  left-stood w h x (copies y) e = rw (refused-stays (w x) (copy M (w x) (w y)) (w y) e) (stood-same (w x))
-  left-stood w h x (unions y) e = acted-stood (w x) (union M (w x) (w y)) (storeAll M (w x) (pairs (M .slots (w y)) (M .size (w y)))) (λ u r i k v z l p q. union-live (w x) (w y) (h x) u r .1 i k v p)
-  left-stood w h x (steps a b) e = stood-same (w x)
+  left-stood w x h (copies y) e = rw (refused-stays (w x) (copy M (w x) (w y)) (w y) e) (stood-same (w x))
+  left-stood w x h (unions y) e = acted-stood (w x) (union M (w x) (w y)) (storeAll M (w x) (pairs (M .slots (w y)) (M .size (w y)))) (λ u r i k v z l p q. union-live (w x) (w y) h u r .1 i k v p)
+  left-stood w x h (steps a b) e = stood-same (w x)
 
   -- the value of a live key is the one in the map
-  settled : (m : M .State) → Healthy M L m → (i : ℕ) (k : K) (v u : W) → i < M .size m → M .slots m i ≡ live k v → look (M .keys) (M .slots m) (M .size m) k ≡ some u → M .slots m i ≡ live k u
+  settled : (m : M .State) → Healthy M m → (i : ℕ) (k : K) (v u : W) → i < M .size m → M .slots m i ≡ live k v → look (M .keys) (M .slots m) (M .size m) k ≡ some u → M .slots m i ≡ live k u
   settled m h i k v u l p q =
       let r = once-look (M .keys) (M .size m) (M .slots m) (h .sound .once) k i v l p in
       p ∙ ap (λ x. live k x) (cc)
 
-  -- the tables of a lawful store are an orderly machine
-  pub tables-orderly : (x S : ℕ) → Orderly (tables M x S)
+  -- a known table is sound
+  pub sure-healthy : (x S : ℕ) (s : Book M) → Sure M x S s → Healthy M (s .world x)
+  sure-healthy x S s f = let (m, e) = some-is (M .keys) (s .maps x) (f .known) in f .shows x m e .healthy
+
+  -- its slots show the known map, and as many live ones as the map has keys
+  pub sure-looks : (x S : ℕ) (s : Book M) → Sure M x S s → (k : K) → look (M .keys) (M .slots (s .world x)) S k ≡ lookIn (s .maps x) k
+  unfolding lookIn
+  sure-looks x S s f k =
+      let (m, e) = some-is (M .keys) (s .maps x) (f .known) in
+      subst (λ n. look (M .keys) (M .slots (s .world x)) n k ≡ lookIn (s .maps x) k) (f .sized) (f .shows x m e .looks k ∙ sym (ap (λ o. lookIn o k) e))
+
+  pub sure-counts : (x S : ℕ) (s : Book M) → Sure M x S s → (g : Finite K W) → s .maps x ≡ some g → count (M .slots (s .world x)) S ≡ len g
+  unfolding live-count
+  sure-counts x S s f g e = subst (λ n. count (M .slots (s .world x)) n ≡ len g) (f .sized) (live-len M L (s .world x) g (f .shows x g e))
+
+  -- what demand 2 knows stays right, whatever the call
+  pub booked-shows : (s : Book M) → ((y : ℕ) (f : Finite K W) → s .maps y ≡ some f → Shows M (s .world y) f) → (y : ℕ) (c : Call K W) (z : ℕ) (f : Finite K W) → booked M s y c .maps z ≡ some f → Shows M (booked M s y c .world z) f
+  unfolding turned becomes placed
+  booked-shows s h y c z f q = by-eq z y
+      (λ r t. rw t (left-shows M L (s .world) (s .maps) h y c f (rw t at q)))
+      (λ r t. rw t (h z f (rw t at q)))
+
+  -- and so a table that is still known after a call is sound, of as many slots
+  pub booked-sure : (x S : ℕ) (s : Book M) → Sure M x S s → (y : ℕ) (c : Call K W) → isSome (booked M s y c .maps x) ≡ true → Sure M x S (booked M s y c)
   unfolding turned placed
-  tables-orderly x S = record {
-    Fine = λ w. AllSound M L x S w;
-    whole = λ w f i l e. f .healthy x .sound .whole i (rw (f .sized) l) e;
-    once = λ w f i j k v u a b p q. f .healthy x .sound .once i j k v u (rw (f .sized) a) (rw (f .sized) b) p q;
-    after-fine = λ w c f. record {
-      healthy = λ y. by-eq y (c .0) (λ r t. rw t (left-healthy w (f .healthy) (c .0) (c .1))) (λ r t. rw t (f .healthy y));
-      sized = by-eq x (c .0) (λ r t. rw t (left-size w (f .healthy) (c .0) (c .1) ∙ ap (λ y. M .size (w y)) (sym r) ∙ f .sized)) (λ r t. rw t (f .sized));
-    };
-    stands = λ w c f e i k v u l p q. by-eq x (c .0)
-        (λ r t.
-        let h : Healthy M L (left M w (c .0) (c .1)) = left-healthy w (f .healthy) (c .0) (c .1) in
-        let z : M .size (left M w (c .0) (c .1)) ≡ S = left-size w (f .healthy) (c .0) (c .1) ∙ ap (λ y. M .size (w y)) (sym r) ∙ f .sized in
-        let e′ : (sweeps M (c .1) && not (refuses (answer M w (c .0) (c .1)))) ≡ false = rw (eq-eqb (c .0) x (sym r)) at e in
-        let q′ : look (M .keys) (M .slots (left M w (c .0) (c .1))) (M .size (left M w (c .0) (c .1))) k ≡ some u = rw z (rw t at q) in
-        let p′ : M .slots (w (c .0)) i ≡ live k v = subst (λ y. M .slots (w y) i ≡ live k v) r p in
-        let l′ : i < M .size (w (c .0)) = rw (sym (left-size w (f .healthy) (c .0) (c .1)), z) l in
-        let (a, b) = left-stood w (f .healthy) (c .0) (c .1) e′ i k v u l′ p′ q′ in
-        rw t (settled (left M w (c .0) (c .1)) h i k a u (rw z l) b q′))
-        (λ r t. rw t (settled (w x) (f .healthy x) i k v u (rw (f .sized) l) p (rw (f .sized) (rw t at q))));
+  booked-sure x S s f y c k = record {
+    shows = booked-shows s (f .shows) y c;
+    known = k;
+    sized = by-eq x y
+        (λ r t. rw t (left-size (s .world) y (subst (λ z. Healthy M (s .world z)) r (sure-healthy x S s f)) c ∙ ap (λ z. M .size (s .world z)) (sym r) ∙ f .sized))
+        (λ r t. rw t (f .sized));
   }
 
-  -- demand 3 for a table of any lawful store
-  pub walk-kept : (x S : ℕ) (w : World M) → AllSound M L x S w → Walked (tables M x S) w
-  unfolding tables-orderly
-  walk-kept x S w f = demand-3 (tables M x S) (tables-orderly x S) w f
+  -- a call that does not wipe moves no key of a table that is still known
+  pub booked-stands : (x S : ℕ) (s : Book M) → Sure M x S s → (y : ℕ) (c : Call K W) → isSome (booked M s y c .maps x) ≡ true → (eqb y x && (sweeps M c && not (refuses (answer M (s .world) y c)))) ≡ false → (i : ℕ) (k : K) (v u : W) → i < S → M .slots (s .world x) i ≡ live k v → look (M .keys) (M .slots (booked M s y c .world x)) S k ≡ some u → M .slots (booked M s y c .world x) i ≡ live k u
+  unfolding turned placed
+  booked-stands x S s f y c a e i k v u l p q =
+      let g : Sure M x S (booked M s y c) = booked-sure x S s f y c a in
+      let h : Healthy M (booked M s y c .world x) = sure-healthy x S (booked M s y c) g in
+      by-eq x y
+      (λ r t.
+      let o : Healthy M (s .world y) = subst (λ z. Healthy M (s .world z)) r (sure-healthy x S s f) in
+      let n : M .size (s .world y) ≡ S = ap (λ z. M .size (s .world z)) (sym r) ∙ f .sized in
+      let z : M .size (left M (s .world) y c) ≡ S = left-size (s .world) y o c ∙ n in
+      let e′ : (sweeps M c && not (refuses (answer M (s .world) y c))) ≡ false = rw (eq-eqb y x (sym r)) at e in
+      let q′ : look (M .keys) (M .slots (left M (s .world) y c)) (M .size (left M (s .world) y c)) k ≡ some u = rw z (rw t at q) in
+      let p′ : M .slots (s .world y) i ≡ live k v = subst (λ b. M .slots (s .world b) i ≡ live k v) r p in
+      let (d, b) = left-stood (s .world) y o c e′ i k v u (rw n l) p′ q′ in
+      let h′ : Healthy M (left M (s .world) y c) = rw t at h in
+      rw t (settled (left M (s .world) y c) h′ i k d u (rw z l) b q′))
+      (λ r t. rw t (settled (s .world x) (sure-healthy x S s f) i k v u (rw (f .sized) l) p (rw (f .sized) (rw t at q))))
+
+  -- a step answers by the slots
+  pub sure-paces : (x S : ℕ) (s : Book M) → Sure M x S s → (a b : ℕ) → stepping M (s .world x) a b ≡ step S (M .slots (s .world x)) 0 a b
+  unfolding stepping need
+  sure-paces x S s f a b = rw (sure-healthy x S s f .sized, f .sized)

@@ -7,13 +7,11 @@ use mathlib.Core.Option.{none}
 use native.Mathlib.Omega.{arith}
 use borrow.Author.Tests.{lt-ltb, le-leb, lt-leb, leb-true, leb-false}
 use lib.Dec.{leb}
-use Rattle.model.specs.Slots.{live, frees, pairs, look}
+use Rattle.model.specs.Slots.{live, frees, total, pairs, look}
 use Rattle.model.specs.Path.{miss, freeAt}
 use Rattle.model.specs.Finite.{Finite, isSome, orElse, contains, mass, len, insert, union-prefer-right, firsts, insertAll}
 use Rattle.model.specs.Store.{Store, path, slotAt, pathLength, live-count, used}
 use Rattle.model.specs.Calls.{ok, need, ruleBy, rule, storeAll, missed, lacking, needs, ruined, union, acted, after-union}
-use Rattle.model.specs.Machine.{fine, report}
-use Rattle.model.specs.Demand2.{admit, roomOf}
 use Rattle.model.specs.Lawful.{Lawful, Shows}
 use Rattle.model.proofs.Cases.{by-bool}
 use Rattle.model.proofs.Path.{at-below, free-here}
@@ -21,11 +19,11 @@ use Rattle.model.proofs.Finite.{union-proper, union-mass, insert-mass}
 use Rattle.model.proofs.Pairs.{insertAll-look, last-look, lacking-less, total-pairs}
 use Rattle.model.proofs.Shows.{home-below, shows-total, shows-over, shows-fill, PathOf, here, gone, path-of, room-free, shows-unhurt, shows-unharmed}
 use Rattle.model.proofs.Accepted.{need-ok}
-use Rattle.model.proofs.Agrees.{live-len, used-mass, len-high, used-high}
+use Rattle.model.proofs.Exact.{live-len, used-mass, len-high, used-high}
 use Rattle.model.proofs.Keeps.{shows-same}
 
 module _ {K W : Type 0} (M : Store K W) (L : Lawful M) where
-  module _ (m : M .State) (f : Finite K W) (s : Shows M L m f) where
+  module _ (m : M .State) (f : Finite K W) (s : Shows M m f) where
     pub lacking-is : (k : K) → lacking M m k ≡ not (contains f k)
     unfolding lacking missed contains isSome
     lacking-is k = go (path-of M L m f s k)
@@ -74,11 +72,11 @@ module _ {K W : Type 0} (M : Store K W) (L : Lawful M) where
             ruled-fill (freeAt (M .size m) (M .home m k) (M .slots m)) (free-below k l) (free-open k l) u (rw (p, lt-ltb (freeAt (M .size m) (M .home m k) (M .slots m)) (M .size m) l))
 
     -- the rule inserts the pair
-    pub rule-shows : (k : K) (v : W) → mass (λ a. 1) (insert (M .keys) f k v .dom) ≤ M .size m → mass (M .weight) (insert (M .keys) f k v .dom) ≤ M .bytes m → Shows M L (rule M m k v) (insert (M .keys) f k v) × (M .size (rule M m k v) ≡ M .size m) × (M .bytes (rule M m k v) ≡ M .bytes m)
+    pub rule-shows : (k : K) (v : W) → mass (λ a. 1) (insert (M .keys) f k v .dom) ≤ M .size m → mass (M .weight) (insert (M .keys) f k v .dom) ≤ M .bytes m → Shows M (rule M m k v) (insert (M .keys) f k v) × (M .size (rule M m k v) ≡ M .size m) × (M .bytes (rule M m k v) ≡ M .bytes m)
     unfolding rule ruleBy
     rule-shows k v a b = go (path-of M L m f s k)
       where
-        go : PathOf M L m f s k → Shows M L (ruleBy M m k v (path M m k)) (insert (M .keys) f k v) × (M .size (ruleBy M m k v (path M m k)) ≡ M .size m) × (M .bytes (ruleBy M m k v (path M m k)) ≡ M .bytes m)
+        go : PathOf M L m f s k → Shows M (ruleBy M m k v (path M m k)) (insert (M .keys) f k v) × (M .size (ruleBy M m k v (path M m k)) ≡ M .size m) × (M .bytes (ruleBy M m k v (path M m k)) ≡ M .bytes m)
         go (here n w p e l q) =
             let x = L .over-wrote m (slotAt M m k n) k v w (s .healthy .sized) (s .healthy .good) l q in
             rw p (shows-over M L m f s (slotAt M m k n) k v w l q, x .size, x .bytes)
@@ -88,7 +86,7 @@ module _ {K W : Type 0} (M : Store K W) (L : Lawful M) where
             rw (p, lt-ltb (freeAt (M .size m) (M .home m k) (M .slots m)) (M .size m) l) (shows-fill M L m f s k v e l u, x .size, x .bytes)
 
   -- the rule for each pair, where the keys that the map lacks have slots and bytes
-  pub all-shows : (ps : List (K × W)) (m : M .State) (f : Finite K W) → Shows M L m f → mass (λ k. 1) (f .dom) + mass (λ k. cond (contains f k) 0 1) (firsts ps) ≤ M .size m → mass (M .weight) (f .dom) + mass (λ k. cond (contains f k) 0 (M .weight k)) (firsts ps) ≤ M .bytes m → Shows M L (storeAll M m ps) (insertAll (M .keys) f ps)
+  pub all-shows : (ps : List (K × W)) (m : M .State) (f : Finite K W) → Shows M m f → mass (λ k. 1) (f .dom) + mass (λ k. cond (contains f k) 0 1) (firsts ps) ≤ M .size m → mass (M .weight) (f .dom) + mass (λ k. cond (contains f k) 0 (M .weight k)) (firsts ps) ≤ M .bytes m → Shows M (storeAll M m ps) (insertAll (M .keys) f ps)
   unfolding storeAll insertAll firsts mass
   all-shows [] m f s a b = s
   all-shows (p ∷ ps) m f s a b =
@@ -99,7 +97,7 @@ module _ {K W : Type 0} (M : Store K W) (L : Lawful M) where
       (omega (arith, lacking-less (M .keys) (λ k. 1) f (p .0) (p .1) (firsts ps)))
       (omega (arith, lacking-less (M .keys) (M .weight) f (p .0) (p .1) (firsts ps)))
 
-  module _ (l r : M .State) (f : Finite K W) (s : Shows M L l f) where
+  module _ (l r : M .State) (f : Finite K W) (s : Shows M l f) where
     -- what union needs, over the right's pairs
     pub needs-pairs : (g : K → ℕ) → needs M g l r ≡ mass (λ k. cond (contains f k) 0 (g k)) (firsts (pairs (M .slots r) (M .size r)))
     unfolding needs
@@ -124,7 +122,7 @@ module _ {K W : Type 0} (M : Store K W) (L : Lawful M) where
         )
 
     -- an accepted union of a sound left and ANY right: the right's pairs are inserted in slot order
-    pub union-shows : (u : Unit {0}) → union M l r ≡ ok u → Shows M L (storeAll M l (pairs (M .slots r) (M .size r))) (insertAll (M .keys) f (pairs (M .slots r) (M .size r)))
+    pub union-shows : (u : Unit {0}) → union M l r ≡ ok u → Shows M (storeAll M l (pairs (M .slots r) (M .size r))) (insertAll (M .keys) f (pairs (M .slots r) (M .size r)))
     union-shows u e = let (a, b) = union-room u e in all-shows (pairs (M .slots r) (M .size r)) l f s a b
 
     -- the map of an accepted union: the right's value, of each key's last live slot, else the left's
@@ -132,9 +130,18 @@ module _ {K W : Type 0} (M : Store K W) (L : Lawful M) where
     unfolding after-union acted
     union-look u e a = rw e (union-shows u e .looks a ∙ insertAll-look (M .keys) f (pairs (M .slots r) (M .size r)) a ∙ ap (λ o. orElse o (f .look a)) (last-look (M .keys) a (M .slots r) (M .size r)))
 
-    module _ (g : Finite K W) (t : Shows M L r g) where
+    lacked-needs : (g : K → ℕ) → needs M g l r ≡ total (λ k. cond (contains f k) 0 (g k)) (M .slots r) (M .size r)
+    unfolding needs
+    lacked-needs g = rw (lacking-mass l f s g)
+
+    -- what a union with ANY right answers: its sizes and its damage, then the slots and bytes that the map's lacking keys need, counted over its live slots
+    pub union-any : union M l r ≡ need (M .sized r) 1 (need (not (ruined M r)) 5 (need (leb (total (λ k. cond (contains f k) 0 1) (M .slots r) (M .size r)) (M .size l - mass (λ k. 1) (f .dom))) 7 (need (leb (total (λ k. cond (contains f k) 0 (M .weight k)) (M .slots r) (M .size r)) (M .bytes l - mass (M .weight) (f .dom))) 8 (ok tt))))
+    unfolding union need ruined
+    union-any = rw (s .healthy .sized, shows-unhurt M L l f s, shows-unharmed M L l f s, lacked-needs (λ k. 1), lacked-needs (M .weight), live-length, used-mass M L l f s)
+
+    module _ (g : Finite K W) (t : Shows M r g) where
       -- a known right: union_prefer_right of the two maps
-      pub union-map : (u : Unit {0}) → union M l r ≡ ok u → Shows M L (after-union M l r) (union-prefer-right f g)
+      pub union-map : (u : Unit {0}) → union M l r ≡ ok u → Shows M (after-union M l r) (union-prefer-right f g)
       unfolding after-union acted union-prefer-right
       union-map u e = rw e (shows-same M (insertAll (M .keys) f (pairs (M .slots r) (M .size r))) (union-prefer-right f g) (union-shows u e)
           (λ a. insertAll-look (M .keys) f (pairs (M .slots r) (M .size r)) a ∙ ap (λ o. orElse o (f .look a)) (last-look (M .keys) a (M .slots r) (M .size r) ∙ t .looks a))
@@ -145,9 +152,9 @@ module _ {K W : Type 0} (M : Store K W) (L : Lawful M) where
       needs-mass w = rw (lacking-mass l f s w) (shows-total M L r g t (λ k. cond (contains f k) 0 (w k)))
 
       -- refused exactly when the union would have more keys than slots, or more bytes than the arena
-      pub union-agrees : report {K = K} {W = W} (λ u. fine) (union M l r) ≡ admit M (roomOf M l) (union-prefer-right f g .dom) fine
-      unfolding union report admit need ruined
-      union-agrees =
+      pub union-known : union M l r ≡ need (leb (mass (λ k. 1) (union-prefer-right f g .dom)) (M .size l)) 7 (need (leb (mass (M .weight) (union-prefer-right f g .dom)) (M .bytes l)) 8 (ok tt))
+      unfolding union need ruined
+      union-known =
           let a = union-mass (M .keys) (λ k. 1) f g in
           let b = union-mass (M .keys) (M .weight) f g in
           let one = needs-mass (λ k. 1) in

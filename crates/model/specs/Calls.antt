@@ -2,6 +2,7 @@
 use Prim.Native.Nat.{ℕ, zero, suc, _-_}
 use mathlib.Core.Bool.{Bool, true, false, cond, not}
 use mathlib.Core.List.{List, [], _∷_}
+use mathlib.Core.Option.{Option, none, some}
 use lib.Dec.{ltb, leb, eqb}
 use Rattle.model.specs.Slots.{Slot, never, freed, bad, live, total, pairs}
 use Rattle.model.specs.Path.{Find, hit, miss, hurt}
@@ -31,6 +32,12 @@ give v (ok a) = ok v
 pub data Seen (W : Type 0) : Type 0 where
   found : W → ℕ → ℕ → Seen W
   absent : ℕ → Seen W
+
+-- What a lookup says of its key, without slot and examined number: its value, or that it has none.
+unfoldable pub lookupOf : {W : Type 0} → Or (Seen W) → Or (Option W)
+lookupOf (no n) = no n
+lookupOf (ok (found v s e)) = ok (some v)
+lookupOf (ok (absent e)) = ok none
 
 -- Where a key stands or would go: occupied with slot, value and examined number, or vacant with slot and examined number.
 pub data Spot (W : Type 0) : Type 0 where

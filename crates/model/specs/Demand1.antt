@@ -29,6 +29,10 @@ pub data Rising : ℕ → List Row → Type 1 where
   rises-end : {a : ℕ} → Rising a []
   rises : {a n : ℕ} {P : Type 0} {rs : List Row} → (P → a < n) → Rising (max a n) rs → Rising a (row n P ∷ rs)
 
+-- In the base a key has no refusal, or refusal 2.
+abbrev pub KeyBar : ℕ → Type 0
+KeyBar n = (n ≡ 0) ⊎ (n ≡ 2)
+
 -- n is the least number that applies, and 0 where none does.
 pub record Least (rs : List Row) (n : ℕ) : Type 0 where
   pub applies : (n ≡ 0 → ⊥) → Applies rs n

@@ -18,22 +18,20 @@ pub record Wrote {K W : Type 0} (M : Store K W) (Good : M .State → Type 0) (m 
 
 -- The debts of a store, as its fields say.
 pub record Lawful {K W : Type 0} (M : Store K W) : Type 1 where
-  -- what soundness asks of the memory beyond its slots
-  pub Good : M .State → Type 0
   -- a home slot is below S
   pub homes : (m : M .State) (k : K) → M .sized m ≡ true → M .home m k < M .size m
   -- a sound memory is not refused for damage
-  pub unharmed : (m : M .State) → M .sized m ≡ true → Good m → Sound (M .size m) (M .home m) (M .slots m) → M .harmed m ≡ false
+  pub unharmed : (m : M .State) → M .sized m ≡ true → M .good m → Sound (M .size m) (M .home m) (M .slots m) → M .harmed m ≡ false
   -- the live keys fit the arena
-  pub within : (m : M .State) → M .sized m ≡ true → Good m → used M m ≤ M .bytes m
+  pub within : (m : M .State) → M .sized m ≡ true → M .good m → used M m ≤ M .bytes m
   -- over changes the value of a live slot, and nothing else
-  pub over-wrote : (m : M .State) (i : ℕ) (k : K) (v w : W) → M .sized m ≡ true → Good m → i < M .size m → M .slots m i ≡ live k w → Wrote M Good m (M .over m i v) (put (M .slots m) i (live k v))
+  pub over-wrote : (m : M .State) (i : ℕ) (k : K) (v w : W) → M .sized m ≡ true → M .good m → i < M .size m → M .slots m i ≡ live k w → Wrote M (M .good) m (M .over m i v) (put (M .slots m) i (live k v))
   -- fill makes a free slot live with the key and the value, where the key's bytes fit
-  pub fill-wrote : (m : M .State) (i : ℕ) (k : K) (v : W) → M .sized m ≡ true → Good m → i < M .size m → frees (M .slots m i) ≡ true → used M m + M .weight k ≤ M .bytes m → Wrote M Good m (M .fill m i k v) (put (M .slots m) i (live k v))
+  pub fill-wrote : (m : M .State) (i : ℕ) (k : K) (v : W) → M .sized m ≡ true → M .good m → i < M .size m → frees (M .slots m i) ≡ true → used M m + M .weight k ≤ M .bytes m → Wrote M (M .good) m (M .fill m i k v) (put (M .slots m) i (live k v))
   -- free gives a live slot mark 2
-  pub free-wrote : (m : M .State) (i : ℕ) (k : K) (w : W) → M .sized m ≡ true → Good m → i < M .size m → M .slots m i ≡ live k w → Wrote M Good m (M .free m i) (put (M .slots m) i freed)
+  pub free-wrote : (m : M .State) (i : ℕ) (k : K) (w : W) → M .sized m ≡ true → M .good m → i < M .size m → M .slots m i ≡ live k w → Wrote M (M .good) m (M .free m i) (put (M .slots m) i freed)
   -- wipe gives every slot mark 0
-  pub wipe-wrote : (m : M .State) → M .sized m ≡ true → Wrote M Good m (M .wipe m) made
+  pub wipe-wrote : (m : M .State) → M .sized m ≡ true → Wrote M (M .good) m (M .wipe m) made
 
 -- What a store owes on any memory without damage: a value written over, and a key put into a free slot where its bytes fit, change the slots as they should and do no damage.
 pub record Steady {K W : Type 0} (M : Store K W) : Type 0 where
@@ -43,13 +41,13 @@ pub record Steady {K W : Type 0} (M : Store K W) : Type 0 where
   pub fill-steady : (m : M .State) (i : ℕ) (k : K) (v : W) → M .sized m ≡ true → M .harmed m ≡ false → i < M .size m → frees (M .slots m i) ≡ true → used M m + M .weight k ≤ M .bytes m → Wrote M (λ n. M .harmed n ≡ false) m (M .fill m i k v) (put (M .slots m) i (live k v))
 
 -- A sound memory: right sizes, good, and sound slots.
-pub record Healthy {K W : Type 0} (M : Store K W) (L : Lawful M) (m : M .State) : Type 0 where
+pub record Healthy {K W : Type 0} (M : Store K W) (m : M .State) : Type 0 where
   pub sized : M .sized m ≡ true
-  pub good : L .Good m
+  pub good : M .good m
   pub sound : Sound (M .size m) (M .home m) (M .slots m)
 
 -- A sound memory whose live slots are the finite map f.
-pub record Shows {K W : Type 0} (M : Store K W) (L : Lawful M) (m : M .State) (f : Finite K W) : Type 0 where
-  pub healthy : Healthy M L m
+pub record Shows {K W : Type 0} (M : Store K W) (m : M .State) (f : Finite K W) : Type 0 where
+  pub healthy : Healthy M m
   pub looks : (k : K) → look (M .keys) (M .slots m) (M .size m) k ≡ f .look k
   pub proper : Proper (M .keys) f

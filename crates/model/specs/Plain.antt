@@ -1,5 +1,5 @@
 -- Plain tables: slots with sizes and a home function, and nothing else. The simplest store, which shows that what stores owe can be had.
-use Prim.Native.Nat.{ℕ}
+use Prim.Native.Nat.{ℕ, _≤_}
 use mathlib.Core.Bool.{cond}
 use lib.Dec.{ltb}
 use Rattle.model.specs.Slots.{Slot, never, freed, bad, live, Table, Keys, put, made, total}
@@ -37,6 +37,7 @@ plain {K} {W} E weight = record {
   asked = λ k. 0;
   kept = λ k. 0;
   harmed = λ m. ltb (m .bytes) (total weight (m .slots) (m .size));
+  good = λ m. total weight (m .slots) (m .size) ≤ m .bytes;
   over = λ m i v. reslotted m (put (m .slots) i (revalued (m .slots i) v));
   fill = λ m i k v. reslotted m (put (m .slots) i (live k v));
   free = λ m i. reslotted m (put (m .slots) i freed);

@@ -27,6 +27,8 @@ pub record Store (K W : Type 0) : Type 1 where
   pub kept : K → ℕ
   -- the damage that storing calls find by examining every slot
   pub harmed : State → Bool
+  -- what soundness asks of the memory beyond its slots
+  pub good : State → Type 0
   -- the four ways in which calls write: a live slot's value, a free slot's key and value, a live slot freed, all wiped
   pub over : State → ℕ → W → State
   pub fill : State → ℕ → K → W → State

@@ -1,4 +1,5 @@
 -- The three demands for each kind.
+pub mod Spans
 pub mod IntMap
 pub mod IntSet
 pub mod ByteSet

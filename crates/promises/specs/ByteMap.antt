@@ -1,14 +1,27 @@
 -- The published calls of the byte map: what each tells and leaves, and the call of the theory that it is.
-use Prim.Native.Nat.{ℕ}
+use Prim.Native.Nat.{ℕ, _-_}
+use mathlib.Core.Bool.{cond}
+use mathlib.Core.Option.{some}
+use mathlib.Core.Path.{_≡_}
+use lib.Dec.{leb, eqb}
 use mathlib.Core.List.{List}
 use lib.ListN.{length}
+use Rattle.model.specs.Slots.{live}
 use Rattle.model.specs.Machine as model
 use Rattle.model.specs.Machine.{World}
 use Rattle.kinds.specs.Columns.{values}
 use Rattle.kinds.specs.Told.{Told, told}
 use Rattle.kinds.specs.Calls.{makeOf, capacityOf, lenOf, isEmptyOf, reserveOf, containsOf, copyOf, getOf, removeOf, unionOf, entryOf, heldOf, setOf, takenOf, standingOf, orInsertOf, insertEntryOf}
-use Rattle.kinds.specs.Published.{Published}
-use Rattle.spans.specs.Memory.{Strings}
+use Rattle.kinds.specs.Published.{Published, Duty, heardAs}
+use Rattle.kinds.specs.Owed.{refusing, only, counting, standing, copying, handling, admitting, looking, placing, gripping, opening, Paces, spanning, handing, joining, keeping, replacing}
+use Rattle.model.specs.Finite.{Finite, mass}
+use Rattle.model.specs.Finite
+use Rattle.model.specs.Calls.{Or}
+use Rattle.model.specs.Walk.{Paced}
+use Rattle.model.specs.Demand2.{Book}
+use Rattle.answers.specs.declared.Numbers.{Numbers}
+use Rattle.lent.specs.Moved.{movedOn}
+use Rattle.spans.specs.Memory.{Strings, part, offsetAt, lengthAt}
 use Rattle.spans.specs.Kinds.{maps, insertOf, stepOf}
 use Rattle.byte_entry.specs.declared.Entered.{Entered}
 use Rattle.byte_entry.specs.Calls.{handleOf}
@@ -72,6 +85,70 @@ meant w x (vacant-insert s k v) = model.own (model.vacant-inserts s k v)
 meant w x (or-insert e k v) = model.own (model.or-inserts (handleOf (length (w x .spans .marks)) e) k v)
 meant w x (insert-entry e k v) = model.own (model.insert-entries (handleOf (length (w x .spans .marks)) e) k v)
 
+-- The step of a lent walk: what it tells, and the walk that it leaves in its place.
+unfoldable pub lent-by : World maps → ℕ → ℕ → ℕ → Told ℕ
+lent-by w x at budget = movedOn (stepOf (w x) at budget)
+
+-- What a step's numbers say: the pair's key is the told part of the arena, its value is told.
+abbrev pub heard : Strings values → Numbers → Or (Paced (List ℕ) ℕ)
+heard m n = heardAs (λ n. part (m .spans .arena) (n .offset) (n .length)) (λ n. n .value) n
+
 -- The byte map's published calls.
 abbrev pub published : Published maps
-published = record { Call = Call; told-by = told-by; meant = meant }
+published = record { Call = Call; told-by = told-by; meant = meant; step = step; lent-by = lent-by; heard = heard }
+
+-- A pair that a step hands out, by its slot's part of the arena, and its value.
+abbrev pub pairTold : Strings values → List ℕ → ℕ → ℕ → ℕ → ℕ → Numbers
+pairTold m k v slot walk e = handing 0 v (offsetAt (m .spans) slot) (lengthAt (m .spans) slot) walk e
+
+-- The numbers n that a call on the table x tells, where its map is f.
+abbrev pub Owes : Book maps → ℕ → Finite (List ℕ) ℕ → Call → Numbers → Type 0
+Owes s x f make n = n ≡ only 1
+Owes s x f clear n = n ≡ only 1
+Owes s x f capacity n = n ≡ counting 2 (maps .size (s .world x))
+Owes s x f len n = n ≡ counting 2 (Finite.len f)
+Owes s x f is-empty n = n ≡ cond (eqb (Finite.len f) 0) (only 3) (only 4)
+Owes s x f (reserve a) n = n ≡ cond (leb a (maps .size (s .world x) - Finite.len f)) (only 5) (refusing 7 0)
+Owes s x f (get k) n = n ≡ looking maps (s .world x) f k (λ v i e. standing 6 v i e) (λ e. standing 8 0 0 e)
+Owes s x f (contains-key k) n = n ≡ looking maps (s .world x) f k (λ v i e. standing 7 0 0 e) (λ e. standing 8 0 0 e)
+Owes s x f (remove k) n = n ≡ looking maps (s .world x) f k (λ v i e. standing 11 v i e) (λ e. standing 8 0 0 e)
+Owes s x f (entry k) n = n ≡ placing maps (s .world x) f k (λ v i e. standing 12 v i e) (λ i e. standing 13 0 i e)
+Owes s x f (copy y) n = n ≡ copying maps (s .world x) (s .world y) (only 1)
+Owes s x f (union-prefer-right y) n = (n ≡ joining maps (s .world x) f (s .world y) (only 1)) × ((g : Finite (List ℕ) ℕ) → s .maps y ≡ some g → n ≡ admitting maps (s .world x) (Finite.union-prefer-right f g .dom) (only 1))
+Owes s x f (insert k v) n = n ≡ placing maps (s .world x) f k (λ u i e. standing 10 u i e) (λ i e. spanning 9 i e (mass length (f .dom)) 0)
+Owes s x f (occupied-get i k) n = n ≡ gripping maps (s .world x) f i k (λ v. handling 17 0 v i)
+Owes s x f (occupied-remove i k) n = n ≡ gripping maps (s .world x) f i k (λ v. handling 11 0 v 0)
+Owes s x f (occupied-remove-entry i k) n = n ≡ gripping maps (s .world x) f i k (λ v. handling 11 0 v 0)
+Owes s x f (step a b) n = Paces maps (s .world x) f (pairTold (s .world x)) a b n
+Owes s x f (occupied-set i k v) n = n ≡ gripping maps (s .world x) f i k (λ u. handling 18 0 u i)
+Owes s x f (vacant-insert i k v) n = n ≡ opening maps (s .world x) f i k (handling 19 0 v i)
+Owes s x f (or-insert h k v) n = n ≡ keeping maps (s .world x) f (handleOf (length (s .world x .spans .marks)) h) k v
+Owes s x f (insert-entry h k v) n = n ≡ replacing maps (s .world x) f (handleOf (length (s .world x .spans .marks)) h) k v
+
+-- Where a call tells where a key stands, that part of the arena after the call is the key: of a step, the key of the slot behind the walk. A fresh key has the length that the caller gave.
+abbrev pub Stands : World maps → ℕ → Call → Told (Strings values) → Type 0
+Stands w x make t = Unit {0}
+Stands w x clear t = Unit {0}
+Stands w x capacity t = Unit {0}
+Stands w x len t = Unit {0}
+Stands w x is-empty t = Unit {0}
+Stands w x (reserve n) t = Unit {0}
+Stands w x (get k) t = Unit {0}
+Stands w x (contains-key k) t = Unit {0}
+Stands w x (remove k) t = Unit {0}
+Stands w x (entry k) t = Unit {0}
+Stands w x (copy y) t = Unit {0}
+Stands w x (union-prefer-right y) t = Unit {0}
+Stands w x (insert k v) t = t .numbers .case ≡ 9 → part (t .memory .spans .arena) (t .numbers .offset) (length k) ≡ k
+Stands w x (occupied-get i k) t = Unit {0}
+Stands w x (occupied-remove i k) t = Unit {0}
+Stands w x (occupied-remove-entry i k) t = Unit {0}
+Stands w x (step a b) t = t .numbers .case ≡ 14 → maps .slots (w x) (t .numbers .walk - 1) ≡ live (part (t .memory .spans .arena) (t .numbers .offset) (t .numbers .length)) (t .numbers .value)
+Stands w x (occupied-set i k v) t = Unit {0}
+Stands w x (vacant-insert i k v) t = Unit {0}
+Stands w x (or-insert h k v) t = Unit {0}
+Stands w x (insert-entry h k v) t = Unit {0}
+
+-- What a call owes where the map of its table is known.
+abbrev pub owed : Duty maps published
+owed s x f c t = Owes s x f c (t .numbers) × Stands (s .world) x c t

@@ -1,13 +1,27 @@
 -- The published calls of the byte set: what each tells and leaves, and the call of the theory that it is.
-use Prim.Native.Nat.{ℕ}
+use Prim.Native.Nat.{ℕ, _-_}
+use mathlib.Core.Bool.{cond}
+use mathlib.Core.Option.{some}
+use mathlib.Core.Path.{_≡_}
+use lib.Dec.{leb, eqb}
+use lib.ListN.{length}
 use mathlib.Core.List.{List}
+use Rattle.model.specs.Slots.{live}
 use Rattle.model.specs.Machine as model
 use Rattle.model.specs.Machine.{World}
 use Rattle.kinds.specs.Columns.{nothing}
 use Rattle.kinds.specs.Told.{Told, told}
 use Rattle.kinds.specs.Calls.{makeOf, capacityOf, lenOf, isEmptyOf, reserveOf, containsOf, copyOf, droppedOf}
-use Rattle.kinds.specs.Published.{Published}
-use Rattle.spans.specs.Memory.{Strings}
+use Rattle.kinds.specs.Published.{Published, Duty, heardAs}
+use Rattle.kinds.specs.Owed.{refusing, only, counting, standing, copying, looking, placing, Paces, spanning, handing}
+use Rattle.model.specs.Finite.{Finite, mass}
+use Rattle.model.specs.Finite
+use Rattle.model.specs.Calls.{Or}
+use Rattle.model.specs.Walk.{Paced}
+use Rattle.model.specs.Demand2.{Book}
+use Rattle.answers.specs.declared.Numbers.{Numbers}
+use Rattle.lent.specs.Moved.{movedOn}
+use Rattle.spans.specs.Memory.{Strings, part, offsetAt, lengthAt}
 use Rattle.spans.specs.Kinds.{sets, joinOf, spanOf, setStepOf}
 
 -- One constructor for each published call: keys are byte strings, budgets are numbers, another table is its number.
@@ -47,6 +61,52 @@ meant w x (insert k) = model.own (model.inserts k tt)
 meant w x (remove k) = model.own (model.removes k)
 meant w x (step at budget) = model.steps at budget
 
+-- The step of a lent walk: what it tells, and the walk that it leaves in its place.
+unfoldable pub lent-by : World sets → ℕ → ℕ → ℕ → Told ℕ
+lent-by w x at budget = movedOn (setStepOf (w x) at budget)
+
+-- What a step's numbers say: the pair's key is the told part of the arena.
+abbrev pub heard : Strings nothing → Numbers → Or (Paced (List ℕ) (Unit {0}))
+heard m n = heardAs (λ n. part (m .spans .arena) (n .offset) (n .length)) (λ n. tt) n
+
 -- The byte set's published calls.
 abbrev pub published : Published sets
-published = record { Call = Call; told-by = told-by; meant = meant }
+published = record { Call = Call; told-by = told-by; meant = meant; step = step; lent-by = lent-by; heard = heard }
+
+-- A key that a step hands out, by its slot's part of the arena.
+abbrev pub keyTold : Strings nothing → List ℕ → Unit {0} → ℕ → ℕ → ℕ → Numbers
+keyTold m k v slot walk e = handing 0 0 (offsetAt (m .spans) slot) (lengthAt (m .spans) slot) walk e
+
+-- The numbers n that a call on the table x tells, where its set is f.
+abbrev pub Owes : Book sets → ℕ → Finite (List ℕ) (Unit {0}) → Call → Numbers → Type 0
+Owes s x f make n = n ≡ only 1
+Owes s x f clear n = n ≡ only 1
+Owes s x f capacity n = n ≡ counting 2 (sets .size (s .world x))
+Owes s x f len n = n ≡ counting 2 (Finite.len f)
+Owes s x f is-empty n = n ≡ cond (eqb (Finite.len f) 0) (only 3) (only 4)
+Owes s x f (reserve a) n = n ≡ cond (leb a (sets .size (s .world x) - Finite.len f)) (only 5) (refusing 7 0)
+Owes s x f (copy y) n = n ≡ copying sets (s .world x) (s .world y) (only 1)
+Owes s x f (get k) n = n ≡ looking sets (s .world x) f k (λ v i e. spanning 6 i e (offsetAt (s .world x .spans) i) (lengthAt (s .world x .spans) i)) (λ e. standing 8 0 0 e)
+Owes s x f (contains k) n = n ≡ looking sets (s .world x) f k (λ v i e. standing 7 0 0 e) (λ e. standing 8 0 0 e)
+Owes s x f (insert k) n = n ≡ placing sets (s .world x) f k (λ u i e. standing 10 0 i e) (λ i e. spanning 9 i e (mass length (f .dom)) 0)
+Owes s x f (remove k) n = n ≡ looking sets (s .world x) f k (λ v i e. standing 11 0 i e) (λ e. standing 8 0 0 e)
+Owes s x f (step a b) n = Paces sets (s .world x) f (keyTold (s .world x)) a b n
+
+-- Where a call tells where a key stands, that part of the arena after the call is the key: of a step, the key of the slot behind the walk. A fresh key has the length that the caller gave.
+abbrev pub Stands : World sets → ℕ → Call → Told (Strings nothing) → Type 0
+Stands w x make t = Unit {0}
+Stands w x clear t = Unit {0}
+Stands w x capacity t = Unit {0}
+Stands w x len t = Unit {0}
+Stands w x is-empty t = Unit {0}
+Stands w x (reserve n) t = Unit {0}
+Stands w x (copy y) t = Unit {0}
+Stands w x (get k) t = t .numbers .case ≡ 6 → part (t .memory .spans .arena) (t .numbers .offset) (t .numbers .length) ≡ k
+Stands w x (contains k) t = Unit {0}
+Stands w x (insert k) t = t .numbers .case ≡ 9 → part (t .memory .spans .arena) (t .numbers .offset) (length k) ≡ k
+Stands w x (remove k) t = Unit {0}
+Stands w x (step a b) t = t .numbers .case ≡ 14 → sets .slots (w x) (t .numbers .walk - 1) ≡ live (part (t .memory .spans .arena) (t .numbers .offset) (t .numbers .length)) tt
+
+-- What a call owes where the set of its table is known.
+abbrev pub owed : Duty sets published
+owed s x f c t = Owes s x f c (t .numbers) × Stands (s .world) x c t

@@ -1,11 +1,23 @@
 -- The published calls of the integer map: what each tells and leaves, and the call of the theory that it is.
-use Prim.Native.Nat.{ℕ}
+use Prim.Native.Nat.{ℕ, _-_}
+use mathlib.Core.Bool.{cond}
+use mathlib.Core.Option.{some}
+use mathlib.Core.Path.{_≡_}
+use lib.Dec.{leb, eqb}
 use lib.ListN.{length}
 use Rattle.model.specs.Machine as model
 use Rattle.model.specs.Machine.{World}
 use Rattle.kinds.specs.Columns.{values}
 use Rattle.kinds.specs.Told.{Told, told}
-use Rattle.kinds.specs.Published.{Published}
+use Rattle.kinds.specs.Published.{Published, Duty, heardAs}
+use Rattle.kinds.specs.Owed.{refusing, only, counting, standing, copying, handling, admitting, looking, placing, gripping, opening, Paces, handing, joining, keeping, replacing}
+use Rattle.model.specs.Finite.{Finite}
+use Rattle.model.specs.Finite
+use Rattle.model.specs.Calls.{Or}
+use Rattle.model.specs.Walk.{Paced}
+use Rattle.model.specs.Demand2.{Book}
+use Rattle.answers.specs.declared.Numbers.{Numbers}
+use Rattle.lent.specs.Moved.{movedOn}
 use Rattle.ints.specs.Memory.{Cells}
 use Rattle.ints.specs.Maps.{maps}
 use Rattle.int_map.specs.Calls.{insertOf}
@@ -71,6 +83,46 @@ meant w x (vacant-insert s k v) = model.own (model.vacant-inserts s k v)
 meant w x (or-insert e k v) = model.own (model.or-inserts (handleOf (length (w x .marks)) e) k v)
 meant w x (insert-entry e k v) = model.own (model.insert-entries (handleOf (length (w x .marks)) e) k v)
 
+-- The step of a lent walk: what it tells, and the walk that it leaves in its place.
+unfoldable pub lent-by : World maps → ℕ → ℕ → ℕ → Told ℕ
+lent-by w x at budget = movedOn (stepOf (w x) at budget)
+
+-- What a step's numbers say: the pair's key and value are told.
+abbrev pub heard : Cells values → Numbers → Or (Paced ℕ ℕ)
+heard m n = heardAs (λ n. n .key) (λ n. n .value) n
+
 -- The integer map's published calls.
 abbrev pub published : Published maps
-published = record { Call = Call; told-by = told-by; meant = meant }
+published = record { Call = Call; told-by = told-by; meant = meant; step = step; lent-by = lent-by; heard = heard }
+
+-- A pair that a step hands out, its slot behind the walk: its key and its value.
+abbrev pub pairTold : ℕ → ℕ → ℕ → ℕ → ℕ → Numbers
+pairTold k v slot walk e = handing k v 0 0 walk e
+
+-- The numbers n that a call on the table x tells, where its map is f.
+abbrev pub Owes : Book maps → ℕ → Finite ℕ ℕ → Call → Numbers → Type 0
+Owes s x f make n = n ≡ only 1
+Owes s x f clear n = n ≡ only 1
+Owes s x f capacity n = n ≡ counting 2 (maps .size (s .world x))
+Owes s x f len n = n ≡ counting 2 (Finite.len f)
+Owes s x f is-empty n = n ≡ cond (eqb (Finite.len f) 0) (only 3) (only 4)
+Owes s x f (reserve a) n = n ≡ cond (leb a (maps .size (s .world x) - Finite.len f)) (only 5) (refusing 7 0)
+Owes s x f (get k) n = n ≡ looking maps (s .world x) f k (λ v i e. standing 6 v i e) (λ e. standing 8 0 0 e)
+Owes s x f (contains-key k) n = n ≡ looking maps (s .world x) f k (λ v i e. standing 7 0 0 e) (λ e. standing 8 0 0 e)
+Owes s x f (remove k) n = n ≡ looking maps (s .world x) f k (λ v i e. standing 11 v i e) (λ e. standing 8 0 0 e)
+Owes s x f (entry k) n = n ≡ placing maps (s .world x) f k (λ v i e. standing 12 v i e) (λ i e. standing 13 0 i e)
+Owes s x f (copy y) n = n ≡ copying maps (s .world x) (s .world y) (only 1)
+Owes s x f (union-prefer-right y) n = (n ≡ joining maps (s .world x) f (s .world y) (only 1)) × ((g : Finite ℕ ℕ) → s .maps y ≡ some g → n ≡ admitting maps (s .world x) (Finite.union-prefer-right f g .dom) (only 1))
+Owes s x f (insert k v) n = n ≡ placing maps (s .world x) f k (λ u i e. standing 10 u i e) (λ i e. standing 9 0 i e)
+Owes s x f (occupied-get i k) n = n ≡ gripping maps (s .world x) f i k (λ v. handling 17 0 v i)
+Owes s x f (occupied-remove i k) n = n ≡ gripping maps (s .world x) f i k (λ v. handling 11 0 v 0)
+Owes s x f (occupied-remove-entry i k) n = n ≡ gripping maps (s .world x) f i k (λ v. handling 11 k v 0)
+Owes s x f (step a b) n = Paces maps (s .world x) f pairTold a b n
+Owes s x f (occupied-set i k v) n = n ≡ gripping maps (s .world x) f i k (λ u. handling 18 0 u i)
+Owes s x f (vacant-insert i k v) n = n ≡ opening maps (s .world x) f i k (handling 19 0 v i)
+Owes s x f (or-insert h k v) n = n ≡ keeping maps (s .world x) f (handleOf (length (s .world x .marks)) h) k v
+Owes s x f (insert-entry h k v) n = n ≡ replacing maps (s .world x) f (handleOf (length (s .world x .marks)) h) k v
+
+-- What a call owes where the map of its table is known.
+abbrev pub owed : Duty maps published
+owed s x f c t = Owes s x f c (t .numbers)

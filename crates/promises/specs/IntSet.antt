@@ -1,10 +1,22 @@
 -- The published calls of the integer set: what each tells and leaves, and the call of the theory that it is.
-use Prim.Native.Nat.{ℕ}
+use Prim.Native.Nat.{ℕ, _-_}
+use mathlib.Core.Bool.{cond}
+use mathlib.Core.Option.{some}
+use mathlib.Core.Path.{_≡_}
+use lib.Dec.{leb, eqb}
 use Rattle.model.specs.Machine as model
 use Rattle.model.specs.Machine.{World}
 use Rattle.kinds.specs.Columns.{nothing}
 use Rattle.kinds.specs.Told.{Told, told}
-use Rattle.kinds.specs.Published.{Published}
+use Rattle.kinds.specs.Published.{Published, Duty, heardAs}
+use Rattle.kinds.specs.Owed.{refusing, only, counting, standing, copying, looking, placing, Paces, handing}
+use Rattle.model.specs.Finite.{Finite}
+use Rattle.model.specs.Finite
+use Rattle.model.specs.Calls.{Or}
+use Rattle.model.specs.Walk.{Paced}
+use Rattle.model.specs.Demand2.{Book}
+use Rattle.answers.specs.declared.Numbers.{Numbers}
+use Rattle.lent.specs.Moved.{movedOn}
 use Rattle.ints.specs.Memory.{Cells}
 use Rattle.ints.specs.Sets.{sets}
 use Rattle.int_set.specs.Calls.{insertOf}
@@ -48,6 +60,41 @@ meant w x (remove k) = model.own (model.removes k)
 meant w x (copy y) = model.copies y
 meant w x (step at budget) = model.steps at budget
 
+-- The step of a lent walk: what it tells, and the walk that it leaves in its place.
+unfoldable pub lent-by : World sets → ℕ → ℕ → ℕ → Told ℕ
+lent-by w x at budget = movedOn (stepOf (w x) at budget)
+
+-- What a step's numbers say: the key is told.
+abbrev pub heard : Cells nothing → Numbers → Or (Paced ℕ (Unit {0}))
+heard m n = heardAs (λ n. n .key) (λ n. tt) n
+
 -- The integer set's published calls.
 abbrev pub published : Published sets
-published = record { Call = Call; told-by = told-by; meant = meant }
+published = record { Call = Call; told-by = told-by; meant = meant; step = step; lent-by = lent-by; heard = heard }
+
+-- A case with the key, its slot and the examined number.
+abbrev pub memberTold : ℕ → ℕ → ℕ → ℕ → Numbers
+memberTold c k slot e = record { refusal = 0; case = c; key = k; value = 0; slot = slot; examined = e; walk = 0; offset = 0; length = 0 }
+
+-- A key that a step hands out, its slot behind the walk.
+abbrev pub keyTold : ℕ → Unit {0} → ℕ → ℕ → ℕ → Numbers
+keyTold k v slot walk e = handing k 0 0 0 walk e
+
+-- The numbers n that a call on the table x tells, where its set is f.
+abbrev pub Owes : Book sets → ℕ → Finite ℕ (Unit {0}) → Call → Numbers → Type 0
+Owes s x f make n = n ≡ only 1
+Owes s x f clear n = n ≡ only 1
+Owes s x f capacity n = n ≡ counting 2 (sets .size (s .world x))
+Owes s x f len n = n ≡ counting 2 (Finite.len f)
+Owes s x f is-empty n = n ≡ cond (eqb (Finite.len f) 0) (only 3) (only 4)
+Owes s x f (reserve a) n = n ≡ cond (leb a (sets .size (s .world x) - Finite.len f)) (only 5) (refusing 7 0)
+Owes s x f (copy y) n = n ≡ copying sets (s .world x) (s .world y) (only 1)
+Owes s x f (get k) n = n ≡ looking sets (s .world x) f k (λ v i e. memberTold 6 k i e) (λ e. standing 8 0 0 e)
+Owes s x f (contains k) n = n ≡ looking sets (s .world x) f k (λ v i e. standing 7 0 0 e) (λ e. standing 8 0 0 e)
+Owes s x f (insert k) n = n ≡ placing sets (s .world x) f k (λ u i e. standing 10 0 i e) (λ i e. standing 9 0 i e)
+Owes s x f (remove k) n = n ≡ looking sets (s .world x) f k (λ v i e. standing 11 0 i e) (λ e. standing 8 0 0 e)
+Owes s x f (step a b) n = Paces sets (s .world x) f keyTold a b n
+
+-- What a call owes where the set of its table is known.
+abbrev pub owed : Duty sets published
+owed s x f c t = Owes s x f c (t .numbers)

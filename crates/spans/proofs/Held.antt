@@ -10,8 +10,7 @@ use lib.ListN.{length, getD, List·getD-eq-default}
 use Rattle.model.specs.Slots.{never, freed, bad, live, frees, hurts, weigh, total, damaged}
 use Rattle.model.proofs.Cases.{by-bool, by-lt, by-eq, clash}
 use Rattle.lists.proofs.Parts.{length-part}
-use Rattle.spans.specs.Memory.{Spans, part, endAt, keyAt, spanned, slotsOf, bare, usedOf, beyond, harmful}
-use Rattle.spans.specs.Sound.{liveAt, offsetAt, lengthAt}
+use Rattle.spans.specs.Memory.{Spans, part, endAt, keyAt, spanned, slotsOf, bare, usedOf, beyond, harmful, liveAt, offsetAt, lengthAt}
 use Rattle.spans.proofs.Tiled.{Counted, counts, idle}
 
 -- A live slot is one of the slots.

@@ -5,7 +5,7 @@ use mathlib.Core.Logic.{inl, inr}
 use mathlib.Core.Path.{refl}
 use lib.ListN.{length}
 use Rattle.model.proofs.Cases.{by-bool}
-use Rattle.model.proofs.Least.{KeyBar}
+use Rattle.model.specs.Demand1.{KeyBar}
 use Rattle.digest.specs.Home.{keyFits}
 use Rattle.spans.specs.Memory.{askedOf, keptOf}
 

@@ -18,8 +18,7 @@ use Rattle.digest.specs.Home.{homeOf, slotsFit}
 use Rattle.digest.proofs.Bounds.{home-below}
 use Rattle.kinds.specs.Columns.{Column}
 use Rattle.kinds.proofs.Columns.{Orderly}
-use Rattle.spans.specs.Memory.{Spans, arenaLimit, endAt, usedOf, harmful, fitting, Strings, strings}
-use Rattle.spans.specs.Sound.{liveAt, Laid}
+use Rattle.spans.specs.Memory.{Spans, arenaLimit, endAt, usedOf, harmful, fitting, Strings, strings, liveAt, Laid}
 use Rattle.spans.proofs.Held.{live-says, says-live, free-says, bare-total, bare-damaged, says-unharmed}
 use Rattle.spans.proofs.Writes.{SameSizes, changed, fill-sizes, fill-slots, fill-laid, free-sizes, free-slots, free-laid, wipe-sizes, wipe-slots, wipe-laid}
 
@@ -89,11 +88,8 @@ module _ {W : Type 0} (C : Column W) (O : Orderly C) where
         (O .read-same (m .words) (length (m .spans .marks)) i v d l) (λ j h. O .read-other (m .words) i j v h))
         g
 
-  abbrev Good : Strings C → Type 0
-  Good m = Laid (m .spans)
-
   -- sound memory is not harmful
-  unharmed : (m : Strings C) → Good m → Sound (strings C .size m) (strings C .home m) (strings C .slots m) → harmful (m .spans) ≡ false
+  unharmed : (m : Strings C) → Laid (m .spans) → Sound (strings C .size m) (strings C .home m) (strings C .slots m) → harmful (m .spans) ≡ false
   unfolding endAt
   unharmed m g s =
       let n : ℕ = length (m .spans .marks) in
@@ -103,28 +99,22 @@ module _ {W : Type 0} (C : Column W) (O : Orderly C) where
   pub strings-lawful : Lawful (strings C)
   unfolding endAt
   strings-lawful = record {
-    Good = Good;
     homes = λ m k e. home-below 0 (length (m .spans .marks)) k (sizes-say C m e .0);
     unharmed = λ m e g s. unharmed m g s;
     within = λ m e g. omega (arith, used-is C m, g .within);
-    over-wrote = λ m i k v w e g l q. over-wrote Good m i k v w e l q g;
+    over-wrote = λ m i k v w e g l q. over-wrote (strings C .good) m i k v w e l q g;
     fill-wrote = λ m i k v e g l q u.
         let (a, b, c, d) = sizes-say C m e in
         let room : usedOf (m .spans) + length k ≤ length (m .spans .arena) = omega (arith, used-is C m) in
-        fill-wrote Good m i k v e l room (g .tiled .ends)
+        fill-wrote (strings C .good) m i k v e l room (g .tiled .ends)
         (fill-laid (m .spans) i k room l (omega arith) (omega arith) (g .tiled .ends) g (free-says (m .spans) (C .read (m .words)) i q));
     free-wrote = λ m i k w e g l q.
         let a : liveAt (m .spans) i = live-says (m .spans) (C .read (m .words)) i k w q .0 in
-        wrote Good m (strings C .free m i) (put (strings C .slots m) i freed)
+        wrote (strings C .good) m (strings C .free m i) (put (strings C .slots m) i freed)
         (free-sizes (m .spans) i g a)
         (λ n. O .long-blank (m .words) n i)
         (free-slots (m .spans) i g a (C .read (m .words)) (C .read (C .blank (m .words) i)) (λ j h. O .blank-other (m .words) i j h))
         (free-laid (m .spans) i g a);
     wipe-wrote = λ m e.
-        wrote Good m (strings C .wipe m) made (wipe-sizes (m .spans)) (λ n. O .long-wipe (m .words) n) (wipe-slots (m .spans) (C .read (C .wipe (m .words)))) (wipe-laid (m .spans));
+        wrote (strings C .good) m (strings C .wipe m) made (wipe-sizes (m .spans)) (λ n. O .long-wipe (m .words) n) (wipe-slots (m .spans) (C .read (C .wipe (m .words)))) (wipe-laid (m .spans));
   }
-
-  -- What this store keeps good: its spans are sound.
-  pub good-is : (m : Strings C) → (strings-lawful .Good m) ↔ Laid (m .spans)
-  unfolding strings-lawful
-  good-is m = ((λ g. g), (λ g. g))

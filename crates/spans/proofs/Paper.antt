@@ -13,11 +13,10 @@ use Rattle.model.proofs.Cases.{by-lt, by-eq}
 use Rattle.digest.specs.Home.{homeOf}
 use Rattle.kinds.specs.Columns.{Column}
 use Rattle.kinds.proofs.Columns.{Orderly}
-use Rattle.spans.specs.Memory.{Spans, endAt, keyAt, slotsOf, bare, usedOf, Strings, strings}
-use Rattle.spans.specs.Sound.{liveAt, offsetAt, lengthAt, Covers, Laid, PaperSound}
+use Rattle.spans.specs.Memory.{Spans, endAt, keyAt, slotsOf, bare, usedOf, Strings, strings, liveAt, offsetAt, lengthAt, Laid}
+use Rattle.spans.specs.Sound.{Covers, PaperSound}
 use Rattle.spans.proofs.Tiled.{cover}
 use Rattle.spans.proofs.Held.{live-below, live-says, says-live, never-says, says-never, bad-says, says-bad, slot-counts}
-use Rattle.spans.proofs.Lawful.{strings-lawful, good-is}
 
 module _ {W : Type 0} (s : Spans) (read : ℕ → W) where
   abbrev SoundSlots : Type 0
@@ -74,8 +73,8 @@ paper-laid s p = record {
 }
 
 -- A table is sound exactly when its sizes are right and it is sound in the scope's words.
-pub paper-sound : {W : Type 0} (C : Column W) (O : Orderly C) (m : Strings C) → Healthy (strings C) (strings-lawful C O) m ↔ ((strings C .sized m ≡ true) × PaperSound (m .spans))
-paper-sound C O m = (
-  (λ h. (h .sized, laid-paper (m .spans) (C .read (m .words)) (good-is C O m .0 (h .good)) (h .sound))),
-  (λ p. record { sized = p .0; good = good-is C O m .1 (paper-laid (m .spans) (p .1)); sound = paper-slots (m .spans) (C .read (m .words)) (p .1) }),
+pub paper-sound : {W : Type 0} (C : Column W) (m : Strings C) → Healthy (strings C) m ↔ ((strings C .sized m ≡ true) × PaperSound (m .spans))
+paper-sound C m = (
+  (λ h. (h .sized, laid-paper (m .spans) (C .read (m .words)) (h .good) (h .sound))),
+  (λ p. record { sized = p .0; good = paper-laid (m .spans) (p .1); sound = paper-slots (m .spans) (C .read (m .words)) (p .1) }),
 )

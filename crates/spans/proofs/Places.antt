@@ -14,8 +14,7 @@ use Rattle.model.specs.Places.{Apart}
 use Rattle.model.proofs.Cases.{by-bool, neither}
 use Rattle.kinds.specs.Columns.{Column}
 use Rattle.kinds.proofs.Columns.{Orderly}
-use Rattle.spans.specs.Memory.{Spans, endAt, usedOf, harmful, fall, fallen, filled, emptied, Strings, strings}
-use Rattle.spans.specs.Sound.{liveAt, offsetAt, lengthAt}
+use Rattle.spans.specs.Memory.{Spans, endAt, usedOf, harmful, fall, fallen, filled, emptied, Strings, strings, liveAt, offsetAt, lengthAt}
 use Rattle.spans.specs.Places.{Place, mark-at, offset-at, length-at, beside-at, byte-at, wordIn, overNames, fillNames, freeNames, places}
 use Rattle.spans.proofs.Arena.{pasted-before, pasted-after, closed-before, closed-after}
 use Rattle.spans.proofs.Held.{live-says, free-says, unharmed-says}

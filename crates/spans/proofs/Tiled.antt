@@ -7,8 +7,7 @@ use borrow.Author.Tests.{leb-true, leb-false}
 use lib.Dec.{leb}
 use Rattle.model.specs.Slots.{Table, total, weigh}
 use Rattle.model.proofs.Cases.{by-bool, by-lt}
-use Rattle.spans.specs.Memory.{fall}
-use Rattle.spans.specs.Sound.{Tiled}
+use Rattle.spans.specs.Memory.{fall, Tiled}
 
 -- An offset p stays before the gap from o of length l, or falls by l from behind it.
 pub data Side (o l p n q : ℕ) : Type 0 where

@@ -13,8 +13,7 @@ use Rattle.model.proofs.Cases.{by-bool, by-eq, clash}
 use Rattle.model.proofs.Slots.{by-put, total-put, damaged-not, damaged-bad}
 use Rattle.model.proofs.Finite.{total-dead}
 use Rattle.lists.proofs.Parts.{getD-zeros}
-use Rattle.spans.specs.Memory.{Spans, part, endAt, keyAt, spanned, slotsOf, bare, usedOf, harmful, closed, fall, fallen, filled, emptied, wiped}
-use Rattle.spans.specs.Sound.{Tiled, liveAt, offsetAt, lengthAt, Laid}
+use Rattle.spans.specs.Memory.{Spans, part, endAt, keyAt, spanned, slotsOf, bare, usedOf, harmful, closed, fall, fallen, filled, emptied, wiped, Tiled, liveAt, offsetAt, lengthAt, Laid}
 use Rattle.spans.proofs.Arena.{length-pasted, part-pasted, part-pasted-key, length-closed, part-closed-before, part-closed-behind}
 use Rattle.spans.proofs.Tiled.{Side, before, behind, side, Lowered, Extended, new, old, extended-end, close, extend, weighs}
 use Rattle.spans.proofs.Held.{live-below, spanned-same, slot-counts, unharmed-whole, unharmed-says, says-unharmed}

@@ -9,8 +9,7 @@ use Rattle.answers.specs.declared.Numbers.{Numbers}
 use Rattle.answers.specs.Said.{storedSaid, joinedSaid, spannedSaid, spanHanded, spanOnlyHanded, stepSaid}
 use Rattle.kinds.specs.Columns.{values, nothing}
 use Rattle.kinds.specs.Told.{Told, told}
-use Rattle.spans.specs.Memory.{Strings, strings, usedOf, memory}
-use Rattle.spans.specs.Sound.{offsetAt, lengthAt}
+use Rattle.spans.specs.Memory.{Strings, strings, usedOf, memory, offsetAt, lengthAt}
 
 -- A byte map as a store, and its lent lists.
 abbrev pub maps : Store (List ℕ) ℕ

@@ -1,7 +1,8 @@
 -- The lent lists of a byte table as one record, what its slots hold, and the store that they are.
-use Prim.Native.Nat.{ℕ, zero, suc, _+_, _-_}
+use Prim.Native.Nat.{ℕ, zero, suc, _+_, _-_, _≤_, _<_}
 use mathlib.Core.Bool.{Bool, true, false, cond, _&&_}
 use mathlib.Core.List.{List, [], _∷_, _++_}
+use mathlib.Core.Path.{_≡_}
 use lib.Dec.{eqb, ltb, leb}
 use lib.ListN.{length, getD, take, drop, set, replicate}
 use Rattle.model.specs.Slots.{Slot, never, freed, bad, live, Table, total, damaged}
@@ -52,6 +53,27 @@ bare s = slotsOf s (λ i. tt)
 -- `used`: the sum of the live keys' lengths.
 unfoldable pub usedOf : Spans → ℕ
 usedOf s = total length (bare s) (length (s .marks))
+
+module _ (s : Spans) where
+  -- Whether a slot is live, and its span.
+  abbrev pub liveAt : ℕ → Type 0
+  liveAt i = getD (s .marks) i 0 ≡ 1
+
+  abbrev pub offsetAt : ℕ → ℕ
+  offsetAt i = getD (s .offsets) i 0
+
+  abbrev pub lengthAt : ℕ → ℕ
+  lengthAt i = getD (s .lengths) i 0
+
+-- Live spans that end at u at the latest, and of which each that begins before another's end lies before that other.
+pub record Tiled (live : ℕ → Type 0) (off len : ℕ → ℕ) (u : ℕ) : Type 0 where
+  pub ends : (i : ℕ) → live i → off i + len i ≤ u
+  pub apart : (i j : ℕ) → live i → live j → (i ≡ j → ⊥) → off j < off i + len i → off j + len j ≤ off i
+
+-- Sound spans: they tile the used bytes, and these are bytes of the arena.
+pub record Laid (s : Spans) : Type 0 where
+  pub tiled : Tiled (liveAt s) (offsetAt s) (lengthAt s) (usedOf s)
+  pub within : usedOf s ≤ length (s .arena)
 
 -- Whether a live span of the first n slots ends beyond u.
 unfoldable pub beyond : Spans → ℕ → ℕ → Bool
@@ -138,6 +160,7 @@ strings C = record {
   asked = askedOf;
   kept = keptOf;
   harmed = λ m. harmful (m .spans);
+  good = λ m. Laid (m .spans);
   over = λ m i v. record { spans = m .spans; words = C .write (m .words) i v };
   fill = λ m i k v. record { spans = filled (m .spans) i k; words = C .write (m .words) i v };
   free = λ m i. record { spans = emptied (m .spans) i; words = C .blank (m .words) i };

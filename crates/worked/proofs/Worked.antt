@@ -1,26 +1,38 @@
 -- Every worked row holds, computed by the checker.
 use mathlib.Core.Path.{refl}
 use Rattle.lists.specs.Bytes.{le}
-use Rattle.model.specs.Slots.{frees, hurts, weigh, total, damaged}
+use Rattle.model.specs.Slots.{frees, hurts, holds, weigh, total, damaged, pairOf, pairs}
 use Rattle.model.specs.Path.{from, at, stops, ends, stopAt, freeAt, find}
 use Rattle.model.specs.Store.{path, slotAt, live-count, used, hurtful}
-use Rattle.model.specs.Calls.{need, pass, seenBy, spotBy, get, entry, storedBy, after-insert, remove, removedBy, after-remove, reserve}
+use Rattle.model.specs.Calls.{need, pass, give, seenBy, spotBy, get, entry, storedBy, after-insert, remove, removedBy, after-remove, acted, capacity, after-make, length, reserve, copy, after-copy, ruleBy, rule, storeAll, missed, lacking, needs, ruined, union, after-union, gripOn, grip, occupied-get, after-set, occupied-remove, after-drop, goodFor, vacancy, vacant-insert, after-fill, or-insert, after-or-insert, insert-entry, after-insert-entry}
 use Rattle.model.specs.Walk.{halts, halted, reachOf, paceTo, pace, step}
 use Rattle.model.specs.Machine.{stepping}
-use Rattle.answers.specs.Said.{roomSaid, gotSaid, insertedSaid, removedSaid, storedSaid, stepSaid}
+use Rattle.answers.specs.Said.{doneSaid, countSaid, emptySaid, roomSaid, gotSaid, memberSaid, containedSaid, insertedSaid, addedSaid, removedSaid, droppedSaid, stepSaid, enteredSaid, heldSaid, swappedSaid, takenSaid, takenEntrySaid, standingSaid, storedSaid, joinedSaid, spannedSaid}
 use Rattle.digest.specs.Digest.{mixOf, moreOf}
 use Rattle.kinds.specs.Marks.{cell}
-use Rattle.int_map.specs.Calls.{insertOf}
-use Rattle.kinds.specs.Calls.{removeOf, getOf, reserveOf}
-use Rattle.int_walk.specs.Calls.{stepOf}
+use Rattle.kinds.specs.Calls.{makeOf, capacityOf, lenOf, isEmptyOf, reserveOf, containsOf, copyOf, droppedOf, unionOf, getOf, removeOf, entryOf, heldOf, setOf, takenOf, standingOf, orInsertOf, insertEntryOf, slotOf}
+use Rattle.int_map.specs.Calls as int-map
+use Rattle.int_handles.specs.Calls.{removeEntryOf}
+use Rattle.int_entry.specs.Calls as int-entry
+use Rattle.int_walk.specs.Calls as int-walk
+use Rattle.int_set.specs.Calls as int-set
+use Rattle.int_set_reads.specs.Calls as int-set-reads
+use Rattle.int_set_walk.specs.Calls as int-set-walk
+use Rattle.byte_entry.specs.Calls as byte-entry
 use Rattle.spans.specs.Keys.{sameBytes}
-use Rattle.spans.specs.Memory.{part, endAt, keyAt, spanned, slotsOf, usedOf, beyond, harmful, fitting, pasted, closed, fall, fallen, filled, emptied, askedOf, keptOf}
+use Rattle.spans.specs.Memory.{part, endAt, keyAt, spanned, slotsOf, usedOf, beyond, harmful, fitting, pasted, closed, fall, fallen, filled, emptied, wiped, askedOf, keptOf}
 use Rattle.spans.specs.Kinds as bytes
+use Rattle.promises.specs.IntMap as int-maps
+use Rattle.promises.specs.IntSet as int-sets
+use Rattle.promises.specs.ByteMap as byte-maps
+use Rattle.promises.specs.ByteSet as byte-sets
 use Rattle.worked.specs.Rows.{trace, orders, answers, Holds}
-use Rattle.worked.specs.IntRows as ints
-use Rattle.worked.specs.ByteRows as strings
+use Rattle.worked.specs.IntMapRows as im
+use Rattle.worked.specs.IntSetRows as is
+use Rattle.worked.specs.ByteMapRows as bm
+use Rattle.worked.specs.ByteSetRows as bs
 
--- Every row of both lists holds.
-pub worked : Holds ints.done ints.made ints.rows × Holds strings.done strings.made strings.rows
-unfolding ints.done ints.made ints.rows strings.done strings.made strings.rows trace orders answers getOf reserveOf insertOf removeOf stepOf bytes.insertOf roomSaid gotSaid insertedSaid removedSaid storedSaid stepSaid stepping step pace paceTo reachOf halts halted need pass seenBy spotBy get entry storedBy after-insert remove removedBy after-remove reserve path slotAt live-count used hurtful find stopAt freeAt from at stops ends frees hurts weigh total damaged mixOf moreOf le cell sameBytes part endAt keyAt spanned slotsOf usedOf beyond harmful fitting pasted closed fall fallen filled emptied askedOf keptOf
-worked = (refl, refl)
+-- Every row of the four lists holds.
+pub worked : Holds im.done im.before im.rows × Holds is.done is.before is.rows × Holds bm.done bm.before bm.rows × Holds bs.done bs.before bs.rows
+unfolding im.done im.before im.other im.rows is.done is.before is.other is.rows bm.done bm.before bm.other bm.rows bs.done bs.before bs.other bs.rows trace orders answers int-maps.told-by int-sets.told-by byte-maps.told-by byte-sets.told-by makeOf capacityOf lenOf isEmptyOf reserveOf containsOf copyOf droppedOf unionOf getOf removeOf entryOf heldOf setOf takenOf standingOf orInsertOf insertEntryOf slotOf int-map.insertOf removeEntryOf int-entry.handleOf int-walk.stepOf int-set.insertOf int-set-reads.getOf int-set-walk.stepOf byte-entry.handleOf bytes.insertOf bytes.joinOf bytes.spanOf bytes.stepOf bytes.setStepOf doneSaid countSaid emptySaid roomSaid gotSaid memberSaid containedSaid insertedSaid addedSaid removedSaid droppedSaid stepSaid enteredSaid heldSaid swappedSaid takenSaid takenEntrySaid standingSaid storedSaid joinedSaid spannedSaid stepping step pace paceTo reachOf halts halted need pass give seenBy spotBy get entry storedBy after-insert remove removedBy after-remove acted capacity after-make length reserve copy after-copy ruleBy rule storeAll missed lacking needs ruined union after-union gripOn grip occupied-get after-set occupied-remove after-drop goodFor vacancy vacant-insert after-fill or-insert after-or-insert insert-entry after-insert-entry path slotAt live-count used hurtful find stopAt freeAt from at stops ends frees hurts holds weigh total damaged pairOf pairs mixOf moreOf le cell sameBytes part endAt keyAt spanned slotsOf usedOf beyond harmful fitting pasted closed fall fallen filled emptied wiped askedOf keptOf
+worked = (refl, refl, refl, refl)

@@ -26,4 +26,4 @@ module _ {O M : Type 0} where
 
   -- Every row holds: its call tells and leaves what it says.
   abbrev pub Holds : (M → O → Told M) → M → List (Row O M) → Type 0
-  Holds done made rows = trace done made (orders rows) ≡ answers rows
+  Holds done before rows = trace done before (orders rows) ≡ answers rows
