@@ -121,3 +121,44 @@ rows =
     -- clear: done, all 0
     row clear (line 0 1 0 0 0 0 0) (0 ∷ 0 ∷ 0 ∷ 0 ∷ []) (0 ∷ 0 ∷ 0 ∷ 0 ∷ []) (0 ∷ 0 ∷ 0 ∷ 0 ∷ []) ∷
     []
+
+-- A table with a mark above 2 in slot 0.
+unfoldable pub damaged : Cells values
+damaged = memory (9 ∷ 1 ∷ 0 ∷ 0 ∷ []) (1 ∷ 12 ∷ 0 ∷ 0 ∷ []) (5 ∷ 6 ∷ 0 ∷ 0 ∷ [])
+
+unfoldable pub damagedRows : List (Row Call (Cells values))
+damagedRows =
+    -- key 1 has its home in the damaged slot 0: refused 5
+    row (get 1) (line 5 0 0 0 0 0 0) (9 ∷ 1 ∷ 0 ∷ 0 ∷ []) (1 ∷ 12 ∷ 0 ∷ 0 ∷ []) (5 ∷ 6 ∷ 0 ∷ 0 ∷ []) ∷
+    row (contains-key 1) (line 5 0 0 0 0 0 0) (9 ∷ 1 ∷ 0 ∷ 0 ∷ []) (1 ∷ 12 ∷ 0 ∷ 0 ∷ []) (5 ∷ 6 ∷ 0 ∷ 0 ∷ []) ∷
+    row (insert 1 7) (line 5 0 0 0 0 0 0) (9 ∷ 1 ∷ 0 ∷ 0 ∷ []) (1 ∷ 12 ∷ 0 ∷ 0 ∷ []) (5 ∷ 6 ∷ 0 ∷ 0 ∷ []) ∷
+    row (remove 1) (line 5 0 0 0 0 0 0) (9 ∷ 1 ∷ 0 ∷ 0 ∷ []) (1 ∷ 12 ∷ 0 ∷ 0 ∷ []) (5 ∷ 6 ∷ 0 ∷ 0 ∷ []) ∷
+    row (entry 1) (line 5 0 0 0 0 0 0) (9 ∷ 1 ∷ 0 ∷ 0 ∷ []) (1 ∷ 12 ∷ 0 ∷ 0 ∷ []) (5 ∷ 6 ∷ 0 ∷ 0 ∷ []) ∷
+    row (occupied-get 0 1) (line 5 0 0 0 0 0 0) (9 ∷ 1 ∷ 0 ∷ 0 ∷ []) (1 ∷ 12 ∷ 0 ∷ 0 ∷ []) (5 ∷ 6 ∷ 0 ∷ 0 ∷ []) ∷
+    row (vacant-insert 0 1 7) (line 5 0 0 0 0 0 0) (9 ∷ 1 ∷ 0 ∷ 0 ∷ []) (1 ∷ 12 ∷ 0 ∷ 0 ∷ []) (5 ∷ 6 ∷ 0 ∷ 0 ∷ []) ∷
+    -- key 12 has another path: found 6, slot 1, examined 1
+    row (get 12) (line 0 6 0 6 1 1 0) (9 ∷ 1 ∷ 0 ∷ 0 ∷ []) (1 ∷ 12 ∷ 0 ∷ 0 ∷ []) (5 ∷ 6 ∷ 0 ∷ 0 ∷ []) ∷
+    -- what examines every slot: refused 5
+    row len (line 5 0 0 0 0 0 0) (9 ∷ 1 ∷ 0 ∷ 0 ∷ []) (1 ∷ 12 ∷ 0 ∷ 0 ∷ []) (5 ∷ 6 ∷ 0 ∷ 0 ∷ []) ∷
+    row is-empty (line 5 0 0 0 0 0 0) (9 ∷ 1 ∷ 0 ∷ 0 ∷ []) (1 ∷ 12 ∷ 0 ∷ 0 ∷ []) (5 ∷ 6 ∷ 0 ∷ 0 ∷ []) ∷
+    row (reserve 0) (line 5 0 0 0 0 0 0) (9 ∷ 1 ∷ 0 ∷ 0 ∷ []) (1 ∷ 12 ∷ 0 ∷ 0 ∷ []) (5 ∷ 6 ∷ 0 ∷ 0 ∷ []) ∷
+    row (union-prefer-right 1) (line 5 0 0 0 0 0 0) (9 ∷ 1 ∷ 0 ∷ 0 ∷ []) (1 ∷ 12 ∷ 0 ∷ 0 ∷ []) (5 ∷ 6 ∷ 0 ∷ 0 ∷ []) ∷
+    -- a step over slot 0: refused 5, the walk as it came; from slot 1: (12,6)
+    row (step 0 4) (line 5 0 0 0 0 0 0) (9 ∷ 1 ∷ 0 ∷ 0 ∷ []) (1 ∷ 12 ∷ 0 ∷ 0 ∷ []) (5 ∷ 6 ∷ 0 ∷ 0 ∷ []) ∷
+    row (step 1 4) (line 0 14 12 6 0 1 2) (9 ∷ 1 ∷ 0 ∷ 0 ∷ []) (1 ∷ 12 ∷ 0 ∷ 0 ∷ []) (5 ∷ 6 ∷ 0 ∷ 0 ∷ []) ∷
+    []
+
+-- Arrays that disagree in length: a value too many.
+unfoldable pub uneven : Cells values
+uneven = memory (0 ∷ 0 ∷ 0 ∷ 0 ∷ []) (0 ∷ 0 ∷ 0 ∷ 0 ∷ []) (0 ∷ 0 ∷ 0 ∷ 0 ∷ 0 ∷ [])
+
+unfoldable pub unevenRows : List (Row Call (Cells values))
+unevenRows =
+    -- every call is refused 1, before anything else
+    row make (line 1 0 0 0 0 0 0) (0 ∷ 0 ∷ 0 ∷ 0 ∷ []) (0 ∷ 0 ∷ 0 ∷ 0 ∷ []) (0 ∷ 0 ∷ 0 ∷ 0 ∷ 0 ∷ []) ∷
+    row capacity (line 1 0 0 0 0 0 0) (0 ∷ 0 ∷ 0 ∷ 0 ∷ []) (0 ∷ 0 ∷ 0 ∷ 0 ∷ []) (0 ∷ 0 ∷ 0 ∷ 0 ∷ 0 ∷ []) ∷
+    row (get 1) (line 1 0 0 0 0 0 0) (0 ∷ 0 ∷ 0 ∷ 0 ∷ []) (0 ∷ 0 ∷ 0 ∷ 0 ∷ []) (0 ∷ 0 ∷ 0 ∷ 0 ∷ 0 ∷ []) ∷
+    row (insert 1 7) (line 1 0 0 0 0 0 0) (0 ∷ 0 ∷ 0 ∷ 0 ∷ []) (0 ∷ 0 ∷ 0 ∷ 0 ∷ []) (0 ∷ 0 ∷ 0 ∷ 0 ∷ 0 ∷ []) ∷
+    row (copy 1) (line 1 0 0 0 0 0 0) (0 ∷ 0 ∷ 0 ∷ 0 ∷ []) (0 ∷ 0 ∷ 0 ∷ 0 ∷ []) (0 ∷ 0 ∷ 0 ∷ 0 ∷ 0 ∷ []) ∷
+    row (step 9 0) (line 1 0 0 0 0 0 9) (0 ∷ 0 ∷ 0 ∷ 0 ∷ []) (0 ∷ 0 ∷ 0 ∷ 0 ∷ []) (0 ∷ 0 ∷ 0 ∷ 0 ∷ 0 ∷ []) ∷
+    []
