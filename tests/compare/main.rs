@@ -1,7 +1,8 @@
 //! Plays scenarios made from a seed through a player of the library, and compares answers and whole memory with the slot rules written
 //! anew here, and tables made and changed by their own calls with std's HashMap and HashSet.
 //!
-//! `compare SEED COUNT PLAYER...` plays COUNT scenarios and prints how often each case came; `compare --write SEED COUNT` prints them.
+//! `compare SEED COUNT PLAYER...` plays COUNT scenarios and prints how often each case came; with `--every-case` in front it fails where
+//! one came too seldom. `compare --write SEED COUNT` prints the scenarios.
 
 mod judge;
 mod rows;
@@ -133,15 +134,16 @@ fn difference(expected: &str, printed: &str) -> Option<String> {
 
 fn number(word: Option<&String>) -> u64 {
     word.and_then(|word| word.parse().ok()).unwrap_or_else(|| {
-        eprintln!("usage: compare SEED COUNT PLAYER...   compare --write SEED COUNT");
+        eprintln!("usage: compare [--every-case] SEED COUNT PLAYER...   compare --write SEED COUNT");
         exit(2)
     })
 }
 
 fn main() {
     let words: Vec<String> = std::env::args().skip(1).collect();
-    let write = words.first().map_or(false, |word| word == "--write");
-    let words = &words[usize::from(write)..];
+    let asked = |flag: &str| words.first().map_or(false, |word| word == flag);
+    let (write, every) = (asked("--write"), asked("--every-case"));
+    let words = &words[usize::from(write || every)..];
     let (seed, count) = (number(words.first()), number(words.get(1)));
     let mut tally = Tally::default();
     let text: String = (0..count).map(|i| scenario(&mut Random(seed.wrapping_mul(1_000_003).wrapping_add(i)), i, &mut tally)).collect();
@@ -156,10 +158,11 @@ fn main() {
         println!("{words}");
         exit(1);
     }
-    let (seldom, strangers) = (tally.report(), tally.strangers());
+    let (seldom, strangers) = (tally.report(every), tally.strangers());
     for stranger in &strangers {
         println!("not admitted: {stranger}");
     }
-    println!("{count} scenarios of seed {seed}, {} calls: no difference; {seldom} cases below {}", text.matches("\nanswer ").count(), tally::LEAST);
+    let few = if every { format!("; {seldom} cases below {}", tally::LEAST) } else { String::new() };
+    println!("{count} scenarios of seed {seed}, {} calls: no difference{few}", text.matches("\nanswer ").count());
     exit(i32::from(seldom > 0 || !strangers.is_empty()));
 }

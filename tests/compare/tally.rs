@@ -4,7 +4,7 @@ use crate::rules::{Answer, Call, Kind, KINDS};
 use crate::text::{answer_text, name};
 use std::collections::BTreeMap;
 
-/// The least number of times that each admitted case, refusal and pair of refusals comes.
+/// The least number of times that each admitted case, refusal and pair of refusals comes, where every case is asked for.
 pub const LEAST: u64 = 20;
 
 /// Counts by kind, call and case.
@@ -69,13 +69,13 @@ impl Tally {
         }
     }
 
-    /// Prints the counts; how many of the admitted cases came too seldom.
-    pub fn report(&self) -> usize {
+    /// Prints the counts; how many of the admitted cases came too seldom, where every case is asked for.
+    pub fn report(&self, every: bool) -> usize {
         let mut seldom = 0;
         for kind in KINDS {
             for (call, case) in admitted(kind) {
                 let times = self.0.get(&(kind.name, call, case.to_string())).copied().unwrap_or(0);
-                let few = times < LEAST;
+                let few = every && times < LEAST;
                 seldom += usize::from(few);
                 println!("{} {call}: {case} {times}{}", kind.name, if few { " TOO FEW" } else { "" });
             }

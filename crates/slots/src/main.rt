@@ -7,6 +7,7 @@ use answers::Refusal;
 use answers::Removed;
 use int_walk::Paced;
 use int_walk::Walk;
+use libc::EINTR;
 use libc::STDIN_FILENO;
 use libc::STDOUT_FILENO;
 use lines::Decimal;
@@ -240,8 +241,20 @@ fn finish(marks: &mut [u8], keys: &mut [u64], values: &mut [u64], s: Session)
     }
 }
 
-// More pieces than any input has: the loop's measure.
-const PIECES: u64 = 18446744073709551615;
+// Whether a read failed, which standard error is told. One that was interrupted does not count: it is made again.
+fn fails(got: isize) -> bool {
+    if 0 <= got {
+        return false;
+    }
+    if os::errno() == EINTR {
+        return false;
+    }
+    os::fail(b"slots: standard input");
+    true
+}
+
+// More reads than any input takes: the loop's measure.
+const READS: u64 = 18446744073709551615;
 
 fn main() {
     let mut marks = [0u8; 1024];
@@ -253,11 +266,14 @@ fn main() {
         begun: false,
         over: false,
     };
-    let mut left = PIECES;
+    let mut left = READS;
     while 0 < left {
         let mut piece = [0u8; 4096];
         let got = libc::read(STDIN_FILENO, &mut piece);
-        if got <= 0 {
+        if fails(got) {
+            return;
+        }
+        if got == 0 {
             finish(&mut marks, &mut keys, &mut values, s);
             return;
         }

@@ -1,4 +1,4 @@
--- `slots::main` meets its contract: the slot count stays within 1,024, and the number of pieces left falls. Assumes nothing.
+-- `slots::main` meets its contract: the slot count stays within 1,024, and the number of reads left falls. Assumes nothing.
 use Prim.Native.Nat.{_≤_}
 use mathlib.Core.Path.{_≡_}
 use lib.ListN.{length}
@@ -25,6 +25,12 @@ slice-aggregate-read c = search needs
 read-requires : tie.Need-read-requires Inv-loop μ-loop
 read-requires c κs = search needs
 
+fails-requires : tie.Need-fails-requires Inv-loop μ-loop
+fails-requires c κs = search needs
+
+returns : tie.Need-returns Inv-loop μ-loop
+returns c = search needs
+
 slice-aggregate-finish : tie.Need-slice-aggregate-finish Inv-loop μ-loop
 slice-aggregate-finish c = search needs
 
@@ -37,8 +43,8 @@ slice-aggregate-finish-3 c = search needs
 finish-requires : tie.Need-finish-requires Inv-loop μ-loop
 finish-requires c κs = search needs
 
-returns : tie.Need-returns Inv-loop μ-loop
-returns c = search needs
+returns-2 : tie.Need-returns-2 Inv-loop μ-loop
+returns-2 c = search needs
 
 slice-aggregate-count : tie.Need-slice-aggregate-count Inv-loop μ-loop
 slice-aggregate-count c = search needs
@@ -64,8 +70,8 @@ slice-aggregate-take-all-4 c = search needs
 take-all-requires : tie.Need-take-all-requires Inv-loop μ-loop
 take-all-requires c κs = search needs
 
-returns-2 : tie.Need-returns-2 Inv-loop μ-loop
-returns-2 c = search needs
+returns-3 : tie.Need-returns-3 Inv-loop μ-loop
+returns-3 c = search needs
 
 sub-left : tie.Need-sub-left Inv-loop μ-loop
 sub-left c = search needs
@@ -76,8 +82,8 @@ loop-less c = search needs
 loop-again : tie.Need-loop-again Inv-loop μ-loop
 loop-again c = search needs
 
-returns-3 : tie.Need-returns-3 Inv-loop μ-loop
-returns-3 c = search needs
+returns-4 : tie.Need-returns-4 Inv-loop μ-loop
+returns-4 c = search needs
 
 pub main-spec : {M : Type 1} → statement M
 main-spec =
@@ -89,11 +95,13 @@ main-spec =
     loop-holds
     slice-aggregate-read
     read-requires
+    fails-requires
+    returns
     slice-aggregate-finish
     slice-aggregate-finish-2
     slice-aggregate-finish-3
     finish-requires
-    returns
+    returns-2
     slice-aggregate-count
     count-requires-2
     slice-aggregate-take-all
@@ -102,8 +110,8 @@ main-spec =
     array-share-prefix-piece
     slice-aggregate-take-all-4
     take-all-requires
-    returns-2
+    returns-3
     sub-left
     loop-less
     loop-again
-    returns-3)
+    returns-4)
