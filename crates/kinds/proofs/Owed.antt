@@ -1,14 +1,12 @@
 -- A table whose map is known: what the calls of the theory say, told by any numbers, is what they owe; and the runs of published calls.
-use Prim.Native.Nat.{ℕ, zero, suc, _+_, _-_, _≤_, _<_, min}
-use mathlib.Core.Bool.{Bool, true, false, cond, not, _&&_}
-use mathlib.Core.List.{List, [], _∷_}
+use Prim.Native.Nat.{ℕ, zero, suc, _-_, _<_}
+use mathlib.Core.Bool.{true, false, cond, not, _&&_}
 use mathlib.Core.Option.{Option, none, some}
-use mathlib.Core.Path.{_≡_, refl, sym, _∙_, ap, subst}
+use mathlib.Core.Path.{_≡_, refl, sym, _∙_, ap}
 use native.Mathlib.Omega.{arith}
-use borrow.Author.Tests.{ne-eqb, eq-eqb, le-leb, lt-leb, leb-true, leb-false, eqb-true, eqb-false, not-true}
-use lib.Dec.{leb, eqb, ltb}
+use borrow.Author.Tests.{lt-leb}
+use lib.Dec.{leb, eqb}
 use Rattle.model.specs.Slots.{live, total}
-use Rattle.model.specs.Path.{hit, miss}
 use Rattle.model.specs.Finite.{Finite, contains, isSome, mass, len, insert as insert-in, remove as remove-from, union-prefer-right}
 use Rattle.model.specs.Store.{Store, path, pathLength, slotAt}
 use Rattle.model.specs.Calls.{Or, no, ok, need, pass, give, Seen, found, absent, Spot, occupied, vacant, seenBy, spotBy, get, entry, remove, capacity, length, reserve, copy, union, grip, occupied-get, occupied-remove, goodFor, vacancy, vacant-insert, ruined}
@@ -18,9 +16,8 @@ use Rattle.model.specs.Demand2.{grown, grips}
 use Rattle.model.specs.Lawful.{Lawful, Shows}
 use Rattle.model.proofs.Cases.{by-bool, by-lt, by-eq, clash}
 use Rattle.model.proofs.Path.{hit-examined, miss-examined}
-use Rattle.model.proofs.Shows.{shows-unharmed}
+use Rattle.model.proofs.Shows.{shows-unharmed, home-below, PathOf, here, gone as lost, path-of}
 use Rattle.model.proofs.Sound.{sound-look}
-use Rattle.model.proofs.Shows.{home-below, PathOf, here, gone as lost, path-of}
 use Rattle.model.proofs.Union.{union-any, union-known}
 use Rattle.model.proofs.Accepted.{need-ok, pass-ok, seen-found, seen-absent, spot-occupied, spot-vacant, entry-spot, remove-seen}
 use Rattle.model.proofs.Walk.{Strode, strode-pair, strode-nothing, strode-done, strode}
@@ -29,7 +26,7 @@ use Rattle.model.specs.Demand3.{unrefused}
 use Rattle.model.proofs.Exact.{seenFor, spotFor, heldFor, seen-is, spot-is, grip-is, length-is, reserve-is}
 use Rattle.model.proofs.Numbered.{Numbered, numbered-no, numbered-ok, get-numbered, remove-numbered, entry-numbered}
 use Rattle.answers.specs.declared.Numbers.{Numbers}
-use Rattle.kinds.specs.Owed.{refusing, only, counting, standing, handling, moving, unless, byMap, lastSlot, openSlot, admitting, copying, looking, placing, gripping, vacates, opening, lacked, joining, Paces, no-budget, beyond, ended, hands, passes}
+use Rattle.kinds.specs.Owed.{refusing, moving, unless, byMap, lastSlot, openSlot, admitting, copying, looking, placing, gripping, vacates, opening, lacked, joining, Paces, no-budget, beyond, ended, hands, passes}
 
 -- what is said of a refusal: its number, and zeros elsewhere
 abbrev pub Plainly : {A : Type 0} → (Or A → Numbers) → Type 0

@@ -6,7 +6,7 @@ use mathlib.Core.Option.{Option, none, some}
 use mathlib.Core.Path.{_≡_}
 use lib.Dec.{eqb}
 use Rattle.model.specs.Store.{Store, pathLength}
-use Rattle.model.specs.Finite.{Finite, isSome}
+use Rattle.model.specs.Finite.{Finite}
 use Rattle.model.specs.Calls.{Or, no, ok}
 use Rattle.model.specs.Walk.{Paced, pair, nothing, done}
 use Rattle.model.specs.Machine as model

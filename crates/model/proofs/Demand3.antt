@@ -1,13 +1,13 @@
 -- Demand 3 over any orderly machine: by one telescoping lemma, how often a staying key was handed out and whether its slot was passed change together.
 use Prim.Native.Nat.{ℕ, suc, _+_, _≤_, _<_}
 use mathlib.Core.Bool.{true, false, cond, not, _&&_}
-use mathlib.Core.List.{List, [], _∷_}
+use mathlib.Core.List.{[], _∷_}
 use mathlib.Core.Path.{_≡_, refl, sym, _∙_, ap}
 use mathlib.Core.Option.{some}
 use native.Mathlib.Omega.{arith}
 use borrow.Author.Tests.{lt-ltb, le-ltb, le-leb, ne-eqb, not-true}
 use lib.Dec.{ltb, eqb}
-use Rattle.model.specs.Slots.{Slot, never, freed, bad, live, Table, Keys, look}
+use Rattle.model.specs.Slots.{Slot, never, freed, bad, live, Table, Keys}
 use Rattle.model.specs.Path.{from}
 use Rattle.model.specs.Finite.{isSome}
 use Rattle.model.specs.Calls.{Or, no, ok, need, pass}

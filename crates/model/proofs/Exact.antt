@@ -5,7 +5,7 @@ use mathlib.Core.Option.{Option, none, some}
 use mathlib.Core.Path.{_≡_, refl, sym, _∙_, ap}
 use native.Mathlib.Omega.{arith}
 use borrow.Author.Tests.{le-leb, lt-leb, leb-true, leb-false}
-use lib.Dec.{ltb, leb}
+use lib.Dec.{leb}
 use Rattle.model.specs.Slots.{Slot, never, freed, bad, live, holds}
 use Rattle.model.specs.Path.{hit, freeAt}
 use Rattle.model.specs.Finite.{Finite, isSome, contains, mass, len}

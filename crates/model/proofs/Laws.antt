@@ -1,6 +1,6 @@
 -- The laws that a manual prints: each a short statement in the scope's words, over any store, and over any lawful store where a table must be sound.
 use Prim.Native.Nat.{ℕ, zero, suc, _+_, _-_, _≤_, _<_, min}
-use mathlib.Core.Bool.{Bool, true, false, cond, not, _&&_}
+use mathlib.Core.Bool.{Bool, true, false, cond, not}
 use mathlib.Core.List.{List, [], _∷_}
 use mathlib.Core.Logic.{_⊎_, inl, inr, ⊎-elim, _↔_}
 use mathlib.Core.Option.{Option, none, some}
@@ -20,7 +20,7 @@ use Rattle.model.specs.Demand1.{Row, row, First, none-applies, applies-h
 use Rattle.model.specs.Demand2.{refuses, renews, EntryOf, is-occupied, is-vacant, is-full, is-tight}
 use Rattle.model.specs.Tables.{sweeps, Renewal}
 use Rattle.model.specs.Lawful.{Lawful, Healthy, Shows}
-use Rattle.model.proofs.Cases.{by-bool, by-lt, by-eq, both, clash}
+use Rattle.model.proofs.Cases.{by-bool, by-lt, by-eq, clash}
 use Rattle.model.proofs.Slots.{put-same}
 use Rattle.model.proofs.Path.{at-below, hit-at, hit-examined, miss-examined, examined-low, examined-high, free-before, free-here, free-high}
 use Rattle.model.proofs.Sound.{sound-look, no-free-full, full-no-free}

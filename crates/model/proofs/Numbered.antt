@@ -8,9 +8,9 @@ use lib.Dec.{ltb, leb, eqb}
 use Rattle.model.specs.Slots.{Slot, never, freed, bad, live}
 use Rattle.model.specs.Path.{Find, hit, miss, hurt, from}
 use Rattle.model.specs.Store.{Store, path, used}
-use Rattle.model.specs.Calls.{Or, no, ok, need, pass, give, Spot, occupied, vacant, Seen, on-occupied, on-vacant, seenBy, spotBy, get, entry, remove, capacity, length, reserve, copy, union, gripOn, grip, occupied-get, occupied-remove, goodFor, vacancy, vacant-insert, or-insert, insert-entry}
-use Rattle.model.specs.Walk.{Paced, halts, halted, reachOf, paceTo, pace, step}
-use Rattle.model.specs.Machine.{Own, makes, clears, capacities, lens, empties, reserves, gets, contains-keys, removes, entries, inserts, occupied-gets, occupied-removes, occupied-sets, vacant-inserts, or-inserts, insert-entries, Call, own, copies, unions, steps, Answer, refused, fine, number, truth, seen, spot, value, paced, report, World, tells, stepping, answer}
+use Rattle.model.specs.Calls.{Or, no, ok, need, pass, give, Spot, occupied, vacant, on-occupied, on-vacant, seenBy, spotBy, get, entry, remove, capacity, length, reserve, copy, union, gripOn, grip, occupied-get, occupied-remove, goodFor, vacancy, vacant-insert, or-insert, insert-entry}
+use Rattle.model.specs.Walk.{halts, halted, reachOf, paceTo, pace, step}
+use Rattle.model.specs.Machine.{makes, clears, capacities, lens, empties, reserves, gets, contains-keys, removes, entries, inserts, occupied-gets, occupied-removes, occupied-sets, vacant-inserts, or-inserts, insert-entries, Call, own, copies, unions, steps, Answer, fine, number, truth, seen, spot, value, paced, report, World, tells, stepping, answer}
 use Rattle.model.specs.Demand1.{refusal}
 use Rattle.model.specs.Demand2.{refuses}
 use Rattle.model.proofs.Cases.{by-bool}

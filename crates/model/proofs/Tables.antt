@@ -28,8 +28,8 @@ use Rattle.model.proofs.Change.{removed-look}
 use Rattle.model.proofs.Sound.{once-look}
 use Rattle.model.proofs.Shows.{home-below}
 use Rattle.model.proofs.Exact.{live-len}
-use Rattle.model.proofs.Keeps.{by-renews, path-live, path-free, own-shows}
-use Rattle.model.proofs.Union.{rule-shows, Ruled, ruled-over, ruled-fill, rule-cases, union-room, union-shows}
+use Rattle.model.proofs.Keeps.{by-renews, path-live, path-free}
+use Rattle.model.proofs.Union.{rule-shows, Ruled, ruled-over, ruled-fill, rule-cases, union-room}
 use Rattle.model.proofs.Accepted.{need-ok, seen-found, spot-occupied, spot-vacant, grip-live, good-vacant, entry-spot, remove-seen, occupied-grip, removed-grip, vacancy-good}
 
 module _ {K W : Type 0} (E : Keys K) where

@@ -1,5 +1,4 @@
 -- A walk with no call in between: upstream's clauses for iter, keys and values.
-use Prim.Native.Nat.{ℕ}
 use mathlib.Core.List.{List, [], _∷_, List·Memᴰ}
 use mathlib.Core.Option.{some}
 use mathlib.Core.Path.{_≡_}

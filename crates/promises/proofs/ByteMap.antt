@@ -1,10 +1,12 @@
 -- The three demands for byte map, over its published calls.
-use Prim.Native.Nat.{ℕ}
+use Prim.Native.Nat.{ℕ, suc, _-_}
 use mathlib.Core.Bool.{true, false}
 use mathlib.Core.List.{List, [], _∷_}
-use mathlib.Core.Option.{none, some}
+use mathlib.Core.Option.{some}
 use mathlib.Core.Path.{_≡_, refl, sym, _∙_, ap}
+use native.Mathlib.Omega.{arith}
 use lib.Dec.{eqb}
+use lib.ListN.{length}
 use Rattle.model.specs.Calls.{Or, no, ok, give, Spot, occupied, vacant, Handle, on-occupied, on-vacant, after-insert}
 use Rattle.model.specs.Calls
 use Rattle.model.specs.Machine.{fine, number, truth, seen, spot, value, paced, tells, leaves, answer, left, stepping, World}
@@ -13,38 +15,33 @@ use Rattle.model.specs.Demand1.{Least, rows, refusal, numberIn}
 use Rattle.model.specs.Demand2.{keyOf, Book}
 use Rattle.model.specs.Demand3.{has, walkAfter, times, handed, Walked}
 use Rattle.model.specs.Iterated.{onlySteps, Iterated}
-use Rattle.model.specs.Finite.{Finite, isSome, mass}
+use Rattle.model.specs.Finite.{Finite, isSome}
 use Rattle.model.specs.Store.{pathLength}
 use Rattle.model.specs.Places.{names}
 use Rattle.model.proofs.Cases.{clash}
 use Rattle.model.proofs.Iterated.{walk-once}
 use Rattle.model.proofs.Numbered.{step-numbered}
-use lib.ListN.{length}
-use Rattle.answers.specs.Said.{doneSaid, countSaid, emptySaid, roomSaid, gotSaid, containedSaid, removedSaid, enteredSaid, storedSaid, heldSaid, swappedSaid, takenSaid, standingSaid, stepSaid}
-use Rattle.kinds.specs.Owed.{refusing, only, keeping, replacing, spanning, standing}
-use Rattle.kinds.proofs.Owed.{get-owed, remove-owed, entry-owed, held-owed, taken-owed, filled-owed, length-owed, capacity-owed, reserve-owed, copy-owed, union-owed, step-owed, get-counted, remove-counted, entry-counted, zeros, union-known-owed, looked-inserted, looked-removed, paces-once}
-use Rattle.byte_entry.specs.Calls.{handleOf}
-use Rattle.kinds.specs.Calls.{slotOf}
-use Prim.Native.Nat.{suc, _-_}
-use native.Mathlib.Omega.{arith}
 use Rattle.model.specs.Slots.{live}
 use Rattle.model.specs.Walk.{Paced, pair, nothing, done}
-use Rattle.spans.specs.Memory.{Strings, part, usedOf, askedOf, offsetAt, lengthAt}
+use Rattle.answers.specs.Said.{doneSaid, countSaid, emptySaid, roomSaid, gotSaid, containedSaid, removedSaid, enteredSaid, storedSaid, heldSaid, swappedSaid, takenSaid, standingSaid, stepSaid, spanHanded}
 use Rattle.answers.proofs.Said.{containedSaid-refusal, countSaid-refusal, doneSaid-refusal, emptySaid-refusal, enteredSaid-refusal, gotSaid-refusal, heldSaid-refusal, storedSaid-refusal, removedSaid-refusal, roomSaid-refusal, standingSaid-refusal, stepSaid-refusal, swappedSaid-refusal, takenSaid-refusal}
 use Rattle.answers.specs.declared.Numbers.{Numbers}
+use Rattle.kinds.specs.Owed.{refusing, only, keeping, replacing, spanning, standing}
+use Rattle.kinds.proofs.Owed.{get-owed, remove-owed, entry-owed, held-owed, taken-owed, filled-owed, length-owed, capacity-owed, reserve-owed, copy-owed, union-owed, step-owed, get-counted, remove-counted, entry-counted, zeros, union-known-owed, looked-inserted, looked-removed, paces-once}
+use Rattle.kinds.specs.Calls.{slotOf, makeOf, capacityOf, lenOf, isEmptyOf, reserveOf, containsOf, copyOf, getOf, removeOf, unionOf, entryOf, heldOf, setOf, takenOf, standingOf, orInsertOf, insertEntryOf}
 use Rattle.kinds.specs.Columns.{values}
 use Rattle.kinds.specs.Published.{Linked, ZerosElsewhere, PathCounted, asked, given, Right, ToldInStep, unknown, noted, afterCalls, Step, walkOf}
 use Rattle.kinds.specs.Told.{told}
 use Rattle.kinds.proofs.Columns.{values-orderly}
 use Rattle.kinds.proofs.Published.{reported, lowest-told, refused-same, named-only, lent-zeros, inserted-known, removed-known, told-in-step, told-owed, told-rest, walk-told, iterated-told, heard-step}
+use Rattle.lent.specs.Moved.{movedOn}
+use Rattle.spans.specs.Memory.{Strings, part, usedOf, askedOf, offsetAt, lengthAt}
 use Rattle.spans.specs.Kinds.{maps, insertOf, stepOf}
 use Rattle.spans.specs.Places.{Place, wordIn, places}
 use Rattle.spans.proofs.Keys.{asked-bar, kept-bar}
 use Rattle.spans.proofs.Lawful.{strings-lawful}
 use Rattle.spans.proofs.Places.{strings-steady, strings-apart}
-use Rattle.answers.specs.Said.{spanHanded}
-use Rattle.kinds.specs.Calls.{makeOf, capacityOf, lenOf, isEmptyOf, reserveOf, containsOf, copyOf, getOf, removeOf, unionOf, entryOf, heldOf, setOf, takenOf, standingOf, orInsertOf, insertEntryOf}
-use Rattle.lent.specs.Moved.{movedOn}
+use Rattle.byte_entry.specs.Calls.{handleOf}
 use Rattle.promises.proofs.Spans.{handed-slot, fresh-bytes, used-told}
 use Rattle.promises.specs.ByteMap.{Call, make, clear, capacity, len, is-empty, reserve, get, contains-key, remove, entry, copy, union-prefer-right, insert, occupied-get, occupied-remove, occupied-remove-entry, step, occupied-set, vacant-insert, or-insert, insert-entry, told-by, meant, published, pairTold, Owes, heard, lent-by, owed, Stands}
 

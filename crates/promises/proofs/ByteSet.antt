@@ -1,11 +1,13 @@
 -- The three demands for byte set, over its published calls.
-use Prim.Native.Nat.{ℕ}
+use Prim.Native.Nat.{ℕ, suc, _-_}
 use mathlib.Core.Bool.{true, false}
 use mathlib.Core.List.{List, [], _∷_}
-use mathlib.Core.Option.{none, some}
+use mathlib.Core.Option.{some}
 use mathlib.Core.Path.{_≡_, refl, sym, _∙_, ap}
+use native.Mathlib.Omega.{arith}
 use lib.Dec.{eqb}
-use Rattle.model.specs.Calls.{ok}
+use lib.ListN.{length}
+use Rattle.model.specs.Calls.{ok, Or, no, Seen, found, absent, Spot, occupied, vacant, after-insert}
 use Rattle.model.specs.Machine.{fine, number, truth, seen, spot, paced, tells, leaves, answer, left, stepping, World}
 use Rattle.model.specs.Lawful.{Lawful}
 use Rattle.model.specs.Demand1.{Least, rows, refusal, numberIn}
@@ -18,33 +20,27 @@ use Rattle.model.specs.Places.{names}
 use Rattle.model.proofs.Cases.{clash}
 use Rattle.model.proofs.Iterated.{walk-once}
 use Rattle.model.proofs.Numbered.{step-numbered}
-use lib.ListN.{length}
-use Rattle.answers.specs.Said.{doneSaid, countSaid, emptySaid, roomSaid, containedSaid, droppedSaid, spannedSaid, joinedSaid, stepSaid}
-use Rattle.kinds.specs.Owed.{refusing, only, spanning, standing}
-use Rattle.kinds.proofs.Owed.{get-owed, remove-owed, entry-owed, length-owed, capacity-owed, reserve-owed, copy-owed, step-owed, get-counted, remove-counted, entry-counted, zeros, looked-inserted, looked-removed, paces-once}
-use Prim.Native.Nat.{suc, _-_}
-use native.Mathlib.Omega.{arith}
 use Rattle.model.specs.Slots.{live}
-use Rattle.model.specs.Finite.{mass}
-use Rattle.model.specs.Calls.{Or, no, Seen, found, absent, Spot, occupied, vacant, after-insert}
 use Rattle.model.specs.Calls
 use Rattle.model.specs.Walk.{Paced, pair, nothing as none-live, done}
-use Rattle.spans.specs.Memory.{Strings, part, usedOf, askedOf, offsetAt, lengthAt}
+use Rattle.answers.specs.Said.{doneSaid, countSaid, emptySaid, roomSaid, containedSaid, droppedSaid, spannedSaid, joinedSaid, stepSaid, spanOnlyHanded}
 use Rattle.answers.proofs.Said.{containedSaid-refusal, countSaid-refusal, doneSaid-refusal, droppedSaid-refusal, joinedSaid-refusal, emptySaid-refusal, spannedSaid-refusal, roomSaid-refusal, stepSaid-refusal}
 use Rattle.answers.specs.declared.Numbers.{Numbers}
+use Rattle.kinds.specs.Owed.{refusing, only, spanning, standing}
+use Rattle.kinds.proofs.Owed.{get-owed, remove-owed, entry-owed, length-owed, capacity-owed, reserve-owed, copy-owed, step-owed, get-counted, remove-counted, entry-counted, zeros, looked-inserted, looked-removed, paces-once}
 use Rattle.kinds.specs.Columns.{nothing}
 use Rattle.kinds.specs.Published.{Linked, ZerosElsewhere, PathCounted, asked, given, Right, ToldInStep, unknown, noted, afterCalls, Step, walkOf}
 use Rattle.kinds.specs.Told.{told}
 use Rattle.kinds.proofs.Columns.{nothing-orderly}
 use Rattle.kinds.proofs.Published.{reported, lowest-told, refused-same, named-only, lent-zeros, inserted-known, removed-known, told-in-step, told-owed, told-rest, walk-told, iterated-told, heard-step}
+use Rattle.kinds.specs.Calls.{makeOf, capacityOf, lenOf, isEmptyOf, reserveOf, containsOf, copyOf, droppedOf}
+use Rattle.lent.specs.Moved.{movedOn}
+use Rattle.spans.specs.Memory.{Strings, part, usedOf, askedOf, offsetAt, lengthAt}
 use Rattle.spans.specs.Kinds.{sets, joinOf, spanOf, setStepOf}
 use Rattle.spans.specs.Places.{Place, wordIn, places}
 use Rattle.spans.proofs.Keys.{asked-bar, kept-bar}
 use Rattle.spans.proofs.Lawful.{strings-lawful}
 use Rattle.spans.proofs.Places.{strings-steady, strings-apart}
-use Rattle.answers.specs.Said.{spanOnlyHanded}
-use Rattle.kinds.specs.Calls.{makeOf, capacityOf, lenOf, isEmptyOf, reserveOf, containsOf, copyOf, droppedOf}
-use Rattle.lent.specs.Moved.{movedOn}
 use Rattle.promises.proofs.Spans.{found-bytes, handed-slot, fresh-bytes, used-told}
 use Rattle.promises.specs.ByteSet.{Call, make, clear, capacity, len, is-empty, reserve, get, contains, insert, remove, copy, step, told-by, meant, published, keyTold, Owes, heard, lent-by, owed, Stands}
 

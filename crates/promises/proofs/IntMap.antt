@@ -3,9 +3,10 @@ use Prim.Native.Nat.{ℕ}
 use mathlib.Core.Bool.{true, false}
 use mathlib.Core.List.{List, [], _∷_}
 use mathlib.Core.Logic.{inl}
-use mathlib.Core.Option.{none, some}
+use mathlib.Core.Option.{some}
 use mathlib.Core.Path.{_≡_, refl, sym, _∙_, ap}
 use lib.Dec.{eqb}
+use lib.ListN.{length}
 use Rattle.model.specs.Calls.{ok, give, union, Handle, on-occupied, on-vacant}
 use Rattle.model.specs.Calls
 use Rattle.model.specs.Machine.{fine, number, truth, seen, spot, value, paced, tells, leaves, answer, left, stepping, World}
@@ -20,28 +21,26 @@ use Rattle.model.specs.Places.{names}
 use Rattle.model.proofs.Cases.{clash}
 use Rattle.model.proofs.Iterated.{walk-once}
 use Rattle.model.proofs.Numbered.{step-numbered}
-use lib.ListN.{length}
-use Rattle.answers.specs.Said.{doneSaid, countSaid, emptySaid, roomSaid, gotSaid, containedSaid, removedSaid, enteredSaid, insertedSaid, heldSaid, swappedSaid, takenSaid, takenEntrySaid, standingSaid, stepSaid}
-use Rattle.kinds.specs.Owed.{refusing, only, keeping, replacing, standing}
-use Rattle.kinds.proofs.Owed.{get-owed, remove-owed, entry-owed, held-owed, taken-owed, filled-owed, length-owed, capacity-owed, reserve-owed, copy-owed, union-owed, step-owed, get-counted, remove-counted, entry-counted, zeros, union-known-owed, looked-inserted, looked-removed, paces-once}
-use Rattle.int_entry.specs.Calls.{handleOf}
+use Rattle.answers.specs.Said.{doneSaid, countSaid, emptySaid, roomSaid, gotSaid, containedSaid, removedSaid, enteredSaid, insertedSaid, heldSaid, swappedSaid, takenSaid, takenEntrySaid, standingSaid, stepSaid, pairHanded}
 use Rattle.answers.proofs.Said.{containedSaid-refusal, countSaid-refusal, doneSaid-refusal, emptySaid-refusal, enteredSaid-refusal, gotSaid-refusal, heldSaid-refusal, insertedSaid-refusal, removedSaid-refusal, roomSaid-refusal, standingSaid-refusal, stepSaid-refusal, swappedSaid-refusal, takenEntrySaid-refusal, takenSaid-refusal}
 use Rattle.answers.specs.declared.Numbers.{Numbers}
+use Rattle.kinds.specs.Owed.{refusing, only, keeping, replacing, standing}
+use Rattle.kinds.proofs.Owed.{get-owed, remove-owed, entry-owed, held-owed, taken-owed, filled-owed, length-owed, capacity-owed, reserve-owed, copy-owed, union-owed, step-owed, get-counted, remove-counted, entry-counted, zeros, union-known-owed, looked-inserted, looked-removed, paces-once}
 use Rattle.kinds.specs.Columns.{values}
 use Rattle.kinds.specs.Published.{Linked, ZerosElsewhere, PathCounted, asked, given, Right, ToldInStep, unknown, noted, afterCalls, Step, walkOf}
 use Rattle.kinds.specs.Told.{told}
 use Rattle.kinds.proofs.Columns.{values-orderly}
 use Rattle.kinds.proofs.Published.{reported, lowest-told, refused-same, named-only, lent-zeros, inserted-known, removed-known, told-in-step, told-owed, told-rest, walk-told, iterated-told, heard-step}
+use Rattle.kinds.specs.Calls.{makeOf, removeOf, capacityOf, lenOf, isEmptyOf, reserveOf, getOf, containsOf, copyOf, unionOf, setOf, entryOf, orInsertOf, insertEntryOf, heldOf, takenOf, standingOf, slotOf}
+use Rattle.lent.specs.Moved.{movedOn}
 use Rattle.ints.specs.Places.{Place, wordIn, places}
 use Rattle.ints.proofs.Lawful.{cells-lawful}
 use Rattle.ints.proofs.Places.{cells-steady, cells-apart}
 use Rattle.ints.specs.Maps.{maps}
-use Rattle.answers.specs.Said.{pairHanded}
+use Rattle.int_entry.specs.Calls.{handleOf}
 use Rattle.int_map.specs.Calls.{insertOf}
-use Rattle.kinds.specs.Calls.{makeOf, removeOf, capacityOf, lenOf, isEmptyOf, reserveOf, getOf, containsOf, copyOf, unionOf, setOf, entryOf, orInsertOf, insertEntryOf, heldOf, takenOf, standingOf, slotOf}
 use Rattle.int_walk.specs.Calls.{stepOf}
 use Rattle.int_handles.specs.Calls.{removeEntryOf}
-use Rattle.lent.specs.Moved.{movedOn}
 use Rattle.promises.specs.IntMap.{Call, make, clear, capacity, len, is-empty, reserve, get, contains-key, remove, entry, copy, union-prefer-right, insert, occupied-get, occupied-remove, occupied-remove-entry, step, occupied-set, vacant-insert, or-insert, insert-entry, told-by, meant, published, pairTold, Owes, heard, lent-by, owed}
 
 -- Integer maps are a lawful store.

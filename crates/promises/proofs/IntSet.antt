@@ -3,9 +3,10 @@ use Prim.Native.Nat.{ℕ}
 use mathlib.Core.Bool.{true, false}
 use mathlib.Core.List.{List, [], _∷_}
 use mathlib.Core.Logic.{inl}
-use mathlib.Core.Option.{none, some}
+use mathlib.Core.Option.{some}
 use mathlib.Core.Path.{_≡_, refl, sym, _∙_, ap}
 use lib.Dec.{eqb}
+use lib.ListN.{length}
 use Rattle.model.specs.Calls.{ok}
 use Rattle.model.specs.Calls
 use Rattle.model.specs.Machine.{fine, number, truth, seen, spot, paced, tells, leaves, answer, left, stepping, World}
@@ -20,28 +21,26 @@ use Rattle.model.specs.Places.{names}
 use Rattle.model.proofs.Cases.{clash}
 use Rattle.model.proofs.Iterated.{walk-once}
 use Rattle.model.proofs.Numbered.{step-numbered}
-use lib.ListN.{length}
-use Rattle.answers.specs.Said.{doneSaid, countSaid, emptySaid, roomSaid, containedSaid, droppedSaid, memberSaid, addedSaid, stepSaid}
-use Rattle.kinds.specs.Owed.{refusing, only, standing}
-use Rattle.kinds.proofs.Owed.{get-owed, remove-owed, entry-owed, length-owed, capacity-owed, reserve-owed, copy-owed, step-owed, get-counted, remove-counted, entry-counted, zeros, looked-inserted, looked-removed, paces-once}
+use Rattle.answers.specs.Said.{doneSaid, countSaid, emptySaid, roomSaid, containedSaid, droppedSaid, memberSaid, addedSaid, stepSaid, keyHanded}
 use Rattle.answers.proofs.Said.{addedSaid-refusal, containedSaid-refusal, countSaid-refusal, doneSaid-refusal, droppedSaid-refusal, emptySaid-refusal, memberSaid-refusal, roomSaid-refusal, stepSaid-refusal}
 use Rattle.answers.specs.declared.Numbers.{Numbers}
+use Rattle.kinds.specs.Owed.{refusing, only, standing}
+use Rattle.kinds.proofs.Owed.{get-owed, remove-owed, entry-owed, length-owed, capacity-owed, reserve-owed, copy-owed, step-owed, get-counted, remove-counted, entry-counted, zeros, looked-inserted, looked-removed, paces-once}
 use Rattle.kinds.specs.Columns.{nothing}
 use Rattle.kinds.specs.Published.{Linked, ZerosElsewhere, PathCounted, asked, given, Right, ToldInStep, unknown, noted, afterCalls, Step, walkOf}
 use Rattle.kinds.specs.Told.{told}
 use Rattle.kinds.proofs.Columns.{nothing-orderly}
 use Rattle.kinds.proofs.Published.{reported, lowest-told, refused-same, named-only, lent-zeros, inserted-known, removed-known, told-in-step, told-owed, told-rest, walk-told, iterated-told, heard-step}
+use Rattle.kinds.specs.Calls.{makeOf, droppedOf, capacityOf, lenOf, isEmptyOf, reserveOf, containsOf, copyOf}
+use Rattle.lent.specs.Moved.{movedOn}
 use Rattle.ints.specs.Places.{Place, wordIn, places}
 use Rattle.ints.proofs.Lawful.{cells-lawful}
 use Rattle.ints.proofs.Places.{cells-steady, cells-apart}
 use Rattle.ints.specs.Sets.{sets}
-use Rattle.answers.specs.Said.{keyHanded}
 use Rattle.int_set.specs.Calls.{insertOf}
-use Rattle.kinds.specs.Calls.{makeOf, droppedOf, capacityOf, lenOf, isEmptyOf, reserveOf, containsOf, copyOf}
 use Rattle.int_set_reads.specs.Calls.{getOf}
 use Rattle.int_set_walk.specs.Calls.{stepOf}
-use Rattle.lent.specs.Moved.{movedOn}
-use Rattle.promises.specs.IntSet.{Call, make, clear, capacity, len, is-empty, reserve, get, contains, insert, remove, copy, step, told-by, meant, published, memberTold, keyTold, Owes, heard, lent-by, owed}
+use Rattle.promises.specs.IntSet.{Call, make, clear, capacity, len, is-empty, reserve, get, contains, insert, remove, copy, step, told-by, meant, published, keyTold, Owes, heard, lent-by, owed}
 
 -- Integer sets are a lawful store.
 pub sets-lawful : Lawful sets

@@ -1,25 +1,24 @@
 -- The published calls of the byte set: what each tells and leaves, and the call of the theory that it is.
 use Prim.Native.Nat.{ℕ, _-_}
 use mathlib.Core.Bool.{cond}
-use mathlib.Core.Option.{some}
 use mathlib.Core.Path.{_≡_}
+use mathlib.Core.List.{List}
 use lib.Dec.{leb, eqb}
 use lib.ListN.{length}
-use mathlib.Core.List.{List}
 use Rattle.model.specs.Slots.{live}
 use Rattle.model.specs.Machine as model
 use Rattle.model.specs.Machine.{World}
-use Rattle.kinds.specs.Columns.{nothing}
-use Rattle.kinds.specs.Told.{Told, told}
-use Rattle.kinds.specs.Calls.{makeOf, capacityOf, lenOf, isEmptyOf, reserveOf, containsOf, copyOf, droppedOf}
-use Rattle.kinds.specs.Published.{Published, Duty, heardAs}
-use Rattle.kinds.specs.Owed.{refusing, only, counting, standing, copying, looking, placing, Paces, spanning, handing}
 use Rattle.model.specs.Finite.{Finite, mass}
 use Rattle.model.specs.Finite
 use Rattle.model.specs.Calls.{Or}
 use Rattle.model.specs.Walk.{Paced}
 use Rattle.model.specs.Demand2.{Book}
 use Rattle.answers.specs.declared.Numbers.{Numbers}
+use Rattle.kinds.specs.Columns.{nothing}
+use Rattle.kinds.specs.Told.{Told, told}
+use Rattle.kinds.specs.Calls.{makeOf, capacityOf, lenOf, isEmptyOf, reserveOf, containsOf, copyOf, droppedOf}
+use Rattle.kinds.specs.Published.{Published, Duty, heardAs}
+use Rattle.kinds.specs.Owed.{refusing, only, counting, standing, copying, looking, placing, Paces, spanning, handing}
 use Rattle.lent.specs.Moved.{movedOn}
 use Rattle.spans.specs.Memory.{Strings, part, offsetAt, lengthAt}
 use Rattle.spans.specs.Kinds.{sets, joinOf, spanOf, setStepOf}

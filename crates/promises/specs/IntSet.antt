@@ -1,26 +1,25 @@
 -- The published calls of the integer set: what each tells and leaves, and the call of the theory that it is.
 use Prim.Native.Nat.{ℕ, _-_}
 use mathlib.Core.Bool.{cond}
-use mathlib.Core.Option.{some}
 use mathlib.Core.Path.{_≡_}
 use lib.Dec.{leb, eqb}
 use Rattle.model.specs.Machine as model
 use Rattle.model.specs.Machine.{World}
-use Rattle.kinds.specs.Columns.{nothing}
-use Rattle.kinds.specs.Told.{Told, told}
-use Rattle.kinds.specs.Published.{Published, Duty, heardAs}
-use Rattle.kinds.specs.Owed.{refusing, only, counting, standing, copying, looking, placing, Paces, handing}
 use Rattle.model.specs.Finite.{Finite}
 use Rattle.model.specs.Finite
 use Rattle.model.specs.Calls.{Or}
 use Rattle.model.specs.Walk.{Paced}
 use Rattle.model.specs.Demand2.{Book}
 use Rattle.answers.specs.declared.Numbers.{Numbers}
+use Rattle.kinds.specs.Columns.{nothing}
+use Rattle.kinds.specs.Told.{Told, told}
+use Rattle.kinds.specs.Published.{Published, Duty, heardAs}
+use Rattle.kinds.specs.Owed.{refusing, only, counting, standing, copying, looking, placing, Paces, handing}
+use Rattle.kinds.specs.Calls.{makeOf, droppedOf, capacityOf, lenOf, isEmptyOf, reserveOf, containsOf, copyOf}
 use Rattle.lent.specs.Moved.{movedOn}
 use Rattle.ints.specs.Memory.{Cells}
 use Rattle.ints.specs.Sets.{sets}
 use Rattle.int_set.specs.Calls.{insertOf}
-use Rattle.kinds.specs.Calls.{makeOf, droppedOf, capacityOf, lenOf, isEmptyOf, reserveOf, containsOf, copyOf}
 use Rattle.int_set_reads.specs.Calls.{getOf}
 use Rattle.int_set_walk.specs.Calls.{stepOf}
 

@@ -12,7 +12,6 @@ use Rattle.model.specs.Lawful.{Healthy}
 use Rattle.model.proofs.Cases.{by-lt, by-eq}
 use Rattle.digest.specs.Home.{homeOf}
 use Rattle.kinds.specs.Columns.{Column}
-use Rattle.kinds.proofs.Columns.{Orderly}
 use Rattle.spans.specs.Memory.{Spans, endAt, keyAt, slotsOf, bare, usedOf, Strings, strings, liveAt, offsetAt, lengthAt, Laid}
 use Rattle.spans.specs.Sound.{Covers, PaperSound}
 use Rattle.spans.proofs.Tiled.{cover}
