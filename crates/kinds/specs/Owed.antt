@@ -29,7 +29,7 @@ counting c v = record { refusal = 0; case = c; key = 0; value = v; slot = 0; exa
 abbrev pub standing : ℕ → ℕ → ℕ → ℕ → Numbers
 standing c v s e = record { refusal = 0; case = c; key = 0; value = v; slot = s; examined = e; walk = 0; offset = 0; length = 0 }
 
--- A case of a handle with the key, its value and its slot: 17 held, 18 swapped, 19 now there, 11 removed.
+-- A case of a handle with a key, a value and its slot: 17 value, 18 was, 19 now, 11 removed.
 abbrev pub handling : ℕ → ℕ → ℕ → ℕ → Numbers
 handling c k v s = record { refusal = 0; case = c; key = k; value = v; slot = s; examined = 0; walk = 0; offset = 0; length = 0 }
 
