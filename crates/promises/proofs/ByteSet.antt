@@ -94,6 +94,37 @@ steps-lent w x a b = refl
 pub sets-linked : Linked sets published
 sets-linked = record { number = number-told; memory = memory-told; hears = steps-heard; lends = steps-lent }
 
+-- Where the set of a call's table is known, the call tells what it owes.
+owes-told : (s : Book sets) → Right sets published s → (x : ℕ) (c : Call) (f : Finite (List ℕ) (Unit {0})) → s .maps x ≡ some f → Owes s x f c (told-by (s .world) x c .numbers)
+unfolding told-by makeOf capacityOf lenOf isEmptyOf reserveOf containsOf droppedOf copyOf joinOf spanOf setStepOf doneSaid countSaid emptySaid roomSaid containedSaid droppedSaid spannedSaid joinedSaid stepSaid
+owes-told s h x make f e = capacity-owed sets sets-lawful (s .world x) f (h x f e) doneSaid (only 1) refl
+owes-told s h x clear f e = capacity-owed sets sets-lawful (s .world x) f (h x f e) doneSaid (only 1) refl
+owes-told s h x capacity f e = capacity-owed sets sets-lawful (s .world x) f (h x f e) countSaid _ refl
+owes-told s h x len f e = length-owed sets sets-lawful (s .world x) f (h x f e) countSaid _ refl
+owes-told s h x is-empty f e = length-owed sets sets-lawful (s .world x) f (h x f e) emptySaid _ refl
+owes-told s h x (reserve a) f e = reserve-owed sets sets-lawful (s .world x) f (h x f e) roomSaid (only 5) (λ n. refl) refl a
+owes-told s h x (copy y) f e = copy-owed sets sets-lawful (s .world x) f (h x f e) doneSaid (only 1) (λ n. refl) refl (s .world y)
+owes-told s h x (get k) f e = get-owed sets sets-lawful (s .world x) f (h x f e) (spannedSaid (offsetAt ((s .world x) .spans)) (lengthAt ((s .world x) .spans))) _ _ (λ n. refl) (λ v i e. refl) (λ e. refl) k
+owes-told s h x (contains k) f e = get-owed sets sets-lawful (s .world x) f (h x f e) containedSaid _ _ (λ n. refl) (λ v i e. refl) (λ e. refl) k
+owes-told s h x (insert k) f e = entry-owed sets sets-lawful (s .world x) f (h x f e) (joinedSaid (usedOf (s .world x .spans))) _ _ (λ n. refl) (λ v i e. refl) (λ i d. ap (λ u. spanning 9 i d u 0) (used-told nothing nothing-orderly (s .world x) f (h x f e))) k
+owes-told s h x (remove k) f e = remove-owed sets sets-lawful (s .world x) f (h x f e) droppedSaid _ _ (λ n. refl) (λ v i e. refl) (λ e. refl) k
+owes-told s h x (step a b) f e = step-owed sets sets-lawful (s .world x) f (h x f e) (stepSaid (spanOnlyHanded (offsetAt ((s .world x) .spans)) (lengthAt ((s .world x) .spans))) a) a b (keyTold (s .world x)) (λ n. refl) (λ j k v e q. let z : suc j - 1 ≡ j = omega arith in rw z) (λ y e. refl) (λ y. refl)
+
+-- At most one answer meets what a call owes.
+pub owes-once : (s : Book sets) (x : ℕ) (f : Finite (List ℕ) (Unit {0})) (c : Call) (n o : Numbers) → Owes s x f c n → Owes s x f c o → n ≡ o
+owes-once s x f make n o p q = p ∙ sym q
+owes-once s x f clear n o p q = p ∙ sym q
+owes-once s x f capacity n o p q = p ∙ sym q
+owes-once s x f len n o p q = p ∙ sym q
+owes-once s x f is-empty n o p q = p ∙ sym q
+owes-once s x f (reserve a) n o p q = p ∙ sym q
+owes-once s x f (copy y) n o p q = p ∙ sym q
+owes-once s x f (get k) n o p q = p ∙ sym q
+owes-once s x f (contains k) n o p q = p ∙ sym q
+owes-once s x f (insert k) n o p q = p ∙ sym q
+owes-once s x f (remove k) n o p q = p ∙ sym q
+owes-once s x f (step a b) n o p q = paces-once sets (s .world x) f (keyTold (s .world x)) a b n o p q
+
 -- Demand 1: on any memory each call tells the lowest refusal that applies by the scope's table, and 0 where none does.
 pub demand-1 : (w : World sets) (x : ℕ) (c : Call) → Least (rows sets w x (meant w x c)) (told-by w x c .numbers .refusal)
 demand-1 w x c = lowest-told sets published sets-linked asked-bar kept-bar (sets-lawful .homes) w x c
@@ -129,37 +160,6 @@ demand-1-zeros = record {
   calls = refused-zeros;
   lent-steps = λ w x a b h. lent-zeros sets published sets-linked w x a b (refused-zeros w x (step a b) (λ e. h (ap (λ t. t .numbers .refusal) (steps-lent w x a b) ∙ e)));
 }
-
--- Where the set of a call's table is known, the call tells what it owes.
-owes-told : (s : Book sets) → Right sets published s → (x : ℕ) (c : Call) (f : Finite (List ℕ) (Unit {0})) → s .maps x ≡ some f → Owes s x f c (told-by (s .world) x c .numbers)
-unfolding told-by makeOf capacityOf lenOf isEmptyOf reserveOf containsOf droppedOf copyOf joinOf spanOf setStepOf doneSaid countSaid emptySaid roomSaid containedSaid droppedSaid spannedSaid joinedSaid stepSaid
-owes-told s h x make f e = capacity-owed sets sets-lawful (s .world x) f (h x f e) doneSaid (only 1) refl
-owes-told s h x clear f e = capacity-owed sets sets-lawful (s .world x) f (h x f e) doneSaid (only 1) refl
-owes-told s h x capacity f e = capacity-owed sets sets-lawful (s .world x) f (h x f e) countSaid _ refl
-owes-told s h x len f e = length-owed sets sets-lawful (s .world x) f (h x f e) countSaid _ refl
-owes-told s h x is-empty f e = length-owed sets sets-lawful (s .world x) f (h x f e) emptySaid _ refl
-owes-told s h x (reserve a) f e = reserve-owed sets sets-lawful (s .world x) f (h x f e) roomSaid (only 5) (λ n. refl) refl a
-owes-told s h x (copy y) f e = copy-owed sets sets-lawful (s .world x) f (h x f e) doneSaid (only 1) (λ n. refl) refl (s .world y)
-owes-told s h x (get k) f e = get-owed sets sets-lawful (s .world x) f (h x f e) (spannedSaid (offsetAt ((s .world x) .spans)) (lengthAt ((s .world x) .spans))) _ _ (λ n. refl) (λ v i e. refl) (λ e. refl) k
-owes-told s h x (contains k) f e = get-owed sets sets-lawful (s .world x) f (h x f e) containedSaid _ _ (λ n. refl) (λ v i e. refl) (λ e. refl) k
-owes-told s h x (insert k) f e = entry-owed sets sets-lawful (s .world x) f (h x f e) (joinedSaid (usedOf (s .world x .spans))) _ _ (λ n. refl) (λ v i e. refl) (λ i d. ap (λ u. spanning 9 i d u 0) (used-told nothing nothing-orderly (s .world x) f (h x f e))) k
-owes-told s h x (remove k) f e = remove-owed sets sets-lawful (s .world x) f (h x f e) droppedSaid _ _ (λ n. refl) (λ v i e. refl) (λ e. refl) k
-owes-told s h x (step a b) f e = step-owed sets sets-lawful (s .world x) f (h x f e) (stepSaid (spanOnlyHanded (offsetAt ((s .world x) .spans)) (lengthAt ((s .world x) .spans))) a) a b (keyTold (s .world x)) (λ n. refl) (λ j k v e q. let z : suc j - 1 ≡ j = omega arith in rw z) (λ y e. refl) (λ y. refl)
-
--- At most one answer meets what a call owes.
-pub owes-once : (s : Book sets) (x : ℕ) (f : Finite (List ℕ) (Unit {0})) (c : Call) (n o : Numbers) → Owes s x f c n → Owes s x f c o → n ≡ o
-owes-once s x f make n o p q = p ∙ sym q
-owes-once s x f clear n o p q = p ∙ sym q
-owes-once s x f capacity n o p q = p ∙ sym q
-owes-once s x f len n o p q = p ∙ sym q
-owes-once s x f is-empty n o p q = p ∙ sym q
-owes-once s x f (reserve a) n o p q = p ∙ sym q
-owes-once s x f (copy y) n o p q = p ∙ sym q
-owes-once s x f (get k) n o p q = p ∙ sym q
-owes-once s x f (contains k) n o p q = p ∙ sym q
-owes-once s x f (insert k) n o p q = p ∙ sym q
-owes-once s x f (remove k) n o p q = p ∙ sym q
-owes-once s x f (step a b) n o p q = paces-once sets (s .world x) f (keyTold (s .world x)) a b n o p q
 
 -- On any memory an accepted lookup tells its path's own examined number.
 pub demand-2-examined : PathCounted sets published
