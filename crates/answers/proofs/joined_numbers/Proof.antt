@@ -4,24 +4,6 @@ use Rattle.answers.specs.Numbers.{joinedNumbers}
 use Rattle.answers.proofs.joined_numbers.Statement.{statement}
 use Rattle.answers.proofs.joined_numbers.Tie as tie
 
-enum-known-a : tie.Need-enum-known-a
-enum-known-a c = search needs
-
-span-numbers-requires : tie.Need-span-numbers-requires
-span-numbers-requires c κs = search needs
-
-enum-known-a-2 : tie.Need-enum-known-a-2
-enum-known-a-2 c = search needs
-
-case-numbers-requires : tie.Need-case-numbers-requires
-case-numbers-requires c κs = search needs
-
-enum-known-a-3 : tie.Need-enum-known-a-3
-enum-known-a-3 c = search needs
-
-refusal-numbers-requires : tie.Need-refusal-numbers-requires
-refusal-numbers-requires c κs = search needs
-
 returns : tie.Need-returns
 unfolding joinedNumbers
 returns c = rw (c .before .before .a .given .1) (c .span-numbers .ensures)
@@ -38,12 +20,5 @@ pub joined-numbers-spec : {M : Type 1} → statement M
 joined-numbers-spec =
     tie.close
     (tie.spec
-    enum-known-a
-    span-numbers-requires
-    enum-known-a-2
-    case-numbers-requires
-    enum-known-a-3
-    refusal-numbers-requires
-    returns
-    returns-2
-    returns-3)
+    (λ c. search needs) (λ c κs. search needs) (λ c. search needs) (λ c κs. search needs) (λ c. search needs) (λ c κs. search needs) returns
+    returns-2 returns-3)

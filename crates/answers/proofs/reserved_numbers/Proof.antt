@@ -4,18 +4,6 @@ use Rattle.answers.specs.Numbers.{reservedNumbers}
 use Rattle.answers.proofs.reserved_numbers.Statement.{statement}
 use Rattle.answers.proofs.reserved_numbers.Tie as tie
 
-enum-told : tie.Need-enum-told
-enum-told c = search needs
-
-case-numbers-requires : tie.Need-case-numbers-requires
-case-numbers-requires c κs = search needs
-
-enum-known-a : tie.Need-enum-known-a
-enum-known-a c = search needs
-
-refusal-numbers-requires : tie.Need-refusal-numbers-requires
-refusal-numbers-requires c κs = search needs
-
 returns : tie.Need-returns
 unfolding reservedNumbers
 returns c = rw (c .before .enum-told .given .1) (c .case-numbers .ensures)
@@ -28,9 +16,4 @@ pub reserved-numbers-spec : {M : Type 1} → statement M
 reserved-numbers-spec =
     tie.close
     (tie.spec
-    enum-told
-    case-numbers-requires
-    enum-known-a
-    refusal-numbers-requires
-    returns
-    returns-2)
+    (λ c. search needs) (λ c κs. search needs) (λ c. search needs) (λ c κs. search needs) returns returns-2)

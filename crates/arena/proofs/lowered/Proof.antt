@@ -4,9 +4,6 @@ use Rattle.arena.proofs.Falling.{fall-live, fall-low, fall-dead}
 use Rattle.arena.proofs.lowered.Statement.{statement}
 use Rattle.arena.proofs.lowered.Tie as tie
 
-sub-result : tie.Need-sub-result
-sub-result c = search needs
-
 returns : tie.Need-returns
 returns c = fall-live _ _ _ _ (c .before .if1 .taken) (c .if2 .taken)
 
@@ -17,4 +14,5 @@ returns-3 : tie.Need-returns-3
 returns-3 c = fall-dead _ _ _ _ (c .if1 .left)
 
 pub lowered-spec : {M : Type 1} → statement M
-lowered-spec = tie.close (tie.spec sub-result returns returns-2 returns-3)
+lowered-spec = tie.close (tie.spec
+    (λ c. search needs) returns returns-2 returns-3)

@@ -19,12 +19,6 @@ loop-holds c = zero-none (c .args .s .now)
 slice-write-s : tie.Need-slice-write-s Inv-loop μ-loop
 slice-write-s c = omega (arith, zero-long (length (c .before .before .args .s .now)) (c .before .loop .s) (c .before .loop .i) (c .before .loop .inv))
 
-add-i : tie.Need-add-i Inv-loop μ-loop
-add-i c = search needs
-
-loop-less : tie.Need-loop-less Inv-loop μ-loop
-loop-less c = search needs
-
 loop-again : tie.Need-loop-again Inv-loop μ-loop
 loop-again c = zero-more (length (c .before .before .args .s .now)) (c .before .loop .s) (c .before .loop .i) (search needs) (c .before .loop .inv)
 
@@ -38,12 +32,4 @@ pub clear-bytes-spec : {M : Type 1} → statement M
 clear-bytes-spec =
     tie.close
     (tie.spec
-    Inv-loop
-    μ-loop
-    loop-holds
-    slice-write-s
-    add-i
-    loop-less
-    loop-again
-    same-length
-    returns)
+    Inv-loop μ-loop loop-holds slice-write-s (λ c. search needs) (λ c. search needs) loop-again same-length returns)

@@ -5,23 +5,11 @@ use borrow.Author.Needs.{needs}
 use Rattle.byte_entry.proofs.entry.Statement.{statement}
 use Rattle.byte_entry.proofs.entry.Tie as tie
 
-place-requires : tie.Need-place-requires
-place-requires c κs = search needs
-
-enum-known-plan : tie.Need-enum-known-plan
-enum-known-plan c = search needs
-
 mul-t15 : tie.Need-mul-t15
 mul-t15 c = let a = place-inside _ _ (c .before .before .before .place .ensures) (c .before .plan .given .1) in search needs
 
 shared-slice-read-t17 : tie.Need-shared-slice-read-t17
 shared-slice-read-t17 c = place-inside _ _ (c .before .before .before .before .place .ensures) (c .before .before .plan .given .1)
-
-enum-known-plan-2 : tie.Need-enum-known-plan-2
-enum-known-plan-2 c = search needs
-
-enum-known-plan-3 : tie.Need-enum-known-plan-3
-enum-known-plan-3 c = search needs
 
 returns : tie.Need-returns
 returns c = entry-hit _ _ (c .before .before .before .before .place .ensures) (c .before .before .plan .given .1)
@@ -36,12 +24,5 @@ pub entry-spec : {M : Type 1} → statement M
 entry-spec =
     tie.close
     (tie.spec
-    place-requires
-    enum-known-plan
-    mul-t15
-    shared-slice-read-t17
-    enum-known-plan-2
-    enum-known-plan-3
-    returns
-    returns-2
+    (λ c κs. search needs) (λ c. search needs) mul-t15 shared-slice-read-t17 (λ c. search needs) (λ c. search needs) returns returns-2
     returns-3)

@@ -5,12 +5,6 @@ use borrow.Author.Needs.{needs}
 use Rattle.byte_handles.proofs.hold.Statement.{statement}
 use Rattle.byte_handles.proofs.hold.Tie as tie
 
-map-fits-requires : tie.Need-map-fits-requires
-map-fits-requires c κs = search needs
-
-may-ask-requires : tie.Need-may-ask-requires
-may-ask-requires c κs = search needs
-
 grip-requires : tie.Need-grip-requires
 grip-requires c κs = same-long _ (c .before .before .before .map-fits .ensures) (c .before .before .if1 .taken)
 
@@ -26,4 +20,5 @@ returns-3 c = holding-unfit _ _ _ (c .before .map-fits .ensures) (c .if1 .left)
 pub hold-spec : {M : Type 1} → statement M
 hold-spec =
     tie.close
-    (tie.spec map-fits-requires may-ask-requires grip-requires returns returns-2 returns-3)
+    (tie.spec
+    (λ c κs. search needs) (λ c κs. search needs) grip-requires returns returns-2 returns-3)

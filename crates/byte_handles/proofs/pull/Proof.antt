@@ -5,29 +5,14 @@ use borrow.Author.Needs.{needs}
 use Rattle.byte_handles.proofs.pull.Statement.{statement}
 use Rattle.byte_handles.proofs.pull.Tie as tie
 
-map-fits-requires : tie.Need-map-fits-requires
-map-fits-requires c κs = search needs
-
-may-ask-requires : tie.Need-may-ask-requires
-may-ask-requires c κs = search needs
-
 survey-requires : tie.Need-survey-requires
 survey-requires c κs = sized-fits _ (c .before .before .before .map-fits .ensures) (c .before .before .if1 .taken)
-
-enum-known-found : tie.Need-enum-known-found
-enum-known-found c = search needs
 
 grip-requires : tie.Need-grip-requires
 grip-requires c κs = same-long _ (c .before .before .before .before .before .before .before .map-fits .ensures) (c .before .before .before .before .before .before .if1 .taken)
 
-pulled-by-requires : tie.Need-pulled-by-requires
-pulled-by-requires c κs = search needs
-
 returns : tie.Need-returns
 returns c = pulling-grip _ _ _ (c .before .before .before .before .before .before .before .before .before .map-fits .ensures) (c .before .before .before .before .before .before .before .before .if1 .taken) (c .before .before .before .before .before .before .before .may-ask .ensures) (c .before .before .before .before .before .before .if2 .taken) (c .before .before .before .before .before .survey .ensures) (c .before .before .before .found .given .1) (c .before .grip .ensures) (c .pulled-by .ensures)
-
-enum-told : tie.Need-enum-told
-enum-told c = search needs
 
 returns-2 : tie.Need-returns-2
 returns-2 c = pulling-bad _ _ _ (c .before .before .before .before .before .before .map-fits .ensures) (c .before .before .before .before .before .if1 .taken) (c .before .before .before .before .may-ask .ensures) (c .before .before .before .if2 .taken) (c .before .before .survey .ensures) (c .enum-told .given .1)
@@ -42,14 +27,5 @@ pub pull-spec : {M : Type 1} → statement M
 pull-spec =
     tie.close
     (tie.spec
-    map-fits-requires
-    may-ask-requires
-    survey-requires
-    enum-known-found
-    grip-requires
-    pulled-by-requires
-    returns
-    enum-told
-    returns-2
-    returns-3
-    returns-4)
+    (λ c κs. search needs) (λ c κs. search needs) survey-requires (λ c. search needs) grip-requires (λ c κs. search needs) returns
+    (λ c. search needs) returns-2 returns-3 returns-4)

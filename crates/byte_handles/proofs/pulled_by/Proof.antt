@@ -4,12 +4,6 @@ use borrow.Author.Needs.{needs}
 use Rattle.byte_handles.proofs.pulled_by.Statement.{statement}
 use Rattle.byte_handles.proofs.pulled_by.Tie as tie
 
-enum-known-held : tie.Need-enum-known-held
-enum-known-held c = search needs
-
-enum-known-held-2 : tie.Need-enum-known-held-2
-enum-known-held-2 c = search needs
-
 returns : tie.Need-returns
 unfolding pulledBy
 returns c = rw (c .before .held .given .1)
@@ -19,4 +13,5 @@ unfolding pulledBy
 returns-2 c = rw (c .before .held2 .given .1)
 
 pub pulled-by-spec : {M : Type 1} → statement M
-pulled-by-spec = tie.close (tie.spec enum-known-held enum-known-held-2 returns returns-2)
+pulled-by-spec = tie.close (tie.spec
+    (λ c. search needs) (λ c. search needs) returns returns-2)

@@ -4,9 +4,6 @@ use Rattle.byte_map.proofs.Planning.{locate-long, locate-short}
 use Rattle.byte_map.proofs.locate.Statement.{statement}
 use Rattle.byte_map.proofs.locate.Tie as tie
 
-locate-requires : tie.Need-locate-requires
-locate-requires c κs = search needs
-
 returns : tie.Need-returns
 returns c = locate-long _ _ (c .before .if1 .taken) (c .locate .ensures)
 
@@ -14,4 +11,5 @@ returns-2 : tie.Need-returns-2
 returns-2 c = locate-short _ _ (c .if1 .left)
 
 pub locate-spec : {M : Type 1} → statement M
-locate-spec = tie.close (tie.spec locate-requires returns returns-2)
+locate-spec = tie.close (tie.spec
+    (λ c κs. search needs) returns returns-2)

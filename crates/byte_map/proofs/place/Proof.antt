@@ -4,9 +4,6 @@ use Rattle.byte_map.proofs.Planning.{place-long, place-short}
 use Rattle.byte_map.proofs.place.Statement.{statement}
 use Rattle.byte_map.proofs.place.Tie as tie
 
-place-requires : tie.Need-place-requires
-place-requires c κs = search needs
-
 returns : tie.Need-returns
 returns c = place-long _ _ (c .before .if1 .taken) (c .place .ensures)
 
@@ -14,4 +11,5 @@ returns-2 : tie.Need-returns-2
 returns-2 c = place-short _ _ (c .if1 .left)
 
 pub place-spec : {M : Type 1} → statement M
-place-spec = tie.close (tie.spec place-requires returns returns-2)
+place-spec = tie.close (tie.spec
+    (λ c κs. search needs) returns returns-2)

@@ -6,26 +6,11 @@ use Rattle.byte_reads.proofs.Laws.{get-hit, get-free, get-full, get-ref
 use Rattle.byte_reads.proofs.get.Statement.{statement}
 use Rattle.byte_reads.proofs.get.Tie as tie
 
-seek-requires : tie.Need-seek-requires
-seek-requires c κs = search needs
-
-enum-known-seen : tie.Need-enum-known-seen
-enum-known-seen c = search needs
-
 mul-t14 : tie.Need-mul-t14
 mul-t14 c = omega (arith, seek-inside _ _ (c .before .before .before .seek .ensures) (c .before .seen .given .1))
 
 shared-slice-read-t16 : tie.Need-shared-slice-read-t16
 shared-slice-read-t16 c = seek-inside _ _ (c .before .before .before .before .seek .ensures) (c .before .before .seen .given .1)
-
-enum-known-seen-2 : tie.Need-enum-known-seen-2
-enum-known-seen-2 c = search needs
-
-enum-known-seen-3 : tie.Need-enum-known-seen-3
-enum-known-seen-3 c = search needs
-
-enum-known-seen-4 : tie.Need-enum-known-seen-4
-enum-known-seen-4 c = search needs
 
 returns : tie.Need-returns
 returns c = get-hit _ _ (c .before .before .before .before .seek .ensures) (c .before .before .seen .given .1)
@@ -43,14 +28,5 @@ pub get-spec : {M : Type 1} → statement M
 get-spec =
     tie.close
     (tie.spec
-    seek-requires
-    enum-known-seen
-    mul-t14
-    shared-slice-read-t16
-    enum-known-seen-2
-    enum-known-seen-3
-    enum-known-seen-4
-    returns
-    returns-2
-    returns-3
-    returns-4)
+    (λ c κs. search needs) (λ c. search needs) mul-t14 shared-slice-read-t16 (λ c. search needs) (λ c. search needs) (λ c. search needs)
+    returns returns-2 returns-3 returns-4)

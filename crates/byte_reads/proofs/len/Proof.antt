@@ -5,20 +5,11 @@ use Rattle.byte_reads.proofs.Laws.{same-long, len-live, len-bad}
 use Rattle.byte_reads.proofs.len.Statement.{statement}
 use Rattle.byte_reads.proofs.len.Tie as tie
 
-map-fits-requires : tie.Need-map-fits-requires
-map-fits-requires c κs = search needs
-
 scan-requires : tie.Need-scan-requires
 scan-requires c κs = let (o, l, v) = same-long _ (c .before .map-fits .ensures) (c .if1 .taken) in (o, l)
 
-enum-known-seen : tie.Need-enum-known-seen
-enum-known-seen c = search needs
-
 returns : tie.Need-returns
 returns c = len-live _ (c .before .before .before .before .before .map-fits .ensures) (c .before .before .before .before .if1 .taken) (c .before .before .before .scan .ensures) (c .before .seen .given .1)
-
-enum-told : tie.Need-enum-told
-enum-told c = search needs
 
 returns-2 : tie.Need-returns-2
 returns-2 c = len-bad _ (c .before .before .before .before .map-fits .ensures) (c .before .before .before .if1 .taken) (c .before .before .scan .ensures) (c .enum-told .given .1)
@@ -30,10 +21,4 @@ pub len-spec : {M : Type 1} → statement M
 len-spec =
     tie.close
     (tie.spec
-    map-fits-requires
-    scan-requires
-    enum-known-seen
-    returns
-    enum-told
-    returns-2
-    returns-3)
+    (λ c κs. search needs) scan-requires (λ c. search needs) returns (λ c. search needs) returns-2 returns-3)

@@ -4,9 +4,6 @@ use Rattle.byte_reads.proofs.Seeking.{map-fits-more, map-fits-not}
 use Rattle.byte_reads.proofs.map_fits.Statement.{statement}
 use Rattle.byte_reads.proofs.map_fits.Tie as tie
 
-fits-requires : tie.Need-fits-requires
-fits-requires c κs = search needs
-
 returns : tie.Need-returns
 returns c = map-fits-more _ (c .before .fits2 .ensures) (c .if1 .taken)
 
@@ -14,4 +11,5 @@ returns-2 : tie.Need-returns-2
 returns-2 c = map-fits-not _ (c .before .fits2 .ensures) (c .if1 .left)
 
 pub map-fits-spec : {M : Type 1} → statement M
-map-fits-spec = tie.close (tie.spec fits-requires returns returns-2)
+map-fits-spec = tie.close (tie.spec
+    (λ c κs. search needs) returns returns-2)

@@ -6,21 +6,6 @@ use Rattle.byte_set_reads.proofs.Laws.{contains-says}
 use Rattle.byte_set_reads.proofs.contains.Statement.{statement}
 use Rattle.byte_set_reads.proofs.contains.Tie as tie
 
-probe-requires : tie.Need-probe-requires
-probe-requires c κs = search needs
-
-enum-known-seen : tie.Need-enum-known-seen
-enum-known-seen c = search needs
-
-enum-known-seen-2 : tie.Need-enum-known-seen-2
-enum-known-seen-2 c = search needs
-
-enum-known-seen-3 : tie.Need-enum-known-seen-3
-enum-known-seen-3 c = search needs
-
-enum-known-seen-4 : tie.Need-enum-known-seen-4
-enum-known-seen-4 c = search needs
-
 returns : tie.Need-returns
 unfolding containedNumbers containedSaid
 returns c = contains-says _ _ (c .before .before .before .probe .ensures) (c .before .seen .given .1)
@@ -41,12 +26,5 @@ pub contains-spec : {M : Type 1} → statement M
 contains-spec =
     tie.close
     (tie.spec
-    probe-requires
-    enum-known-seen
-    enum-known-seen-2
-    enum-known-seen-3
-    enum-known-seen-4
-    returns
-    returns-2
-    returns-3
+    (λ c κs. search needs) (λ c. search needs) (λ c. search needs) (λ c. search needs) (λ c. search needs) returns returns-2 returns-3
     returns-4)

@@ -6,20 +6,11 @@ use Rattle.byte_set_reads.proofs.Laws.{len-live, len-bad, len-not}
 use Rattle.byte_set_reads.proofs.len.Statement.{statement}
 use Rattle.byte_set_reads.proofs.len.Tie as tie
 
-fits-requires : tie.Need-fits-requires
-fits-requires c κs = search needs
-
 scan-requires : tie.Need-scan-requires
 scan-requires c κs = let z = fitting-says _ (sym (c .before .fits2 .ensures) ∙ c .if1 .taken) in (z .offsets, z .lengths)
 
-enum-known-seen : tie.Need-enum-known-seen
-enum-known-seen c = search needs
-
 returns : tie.Need-returns
 returns c = len-live _ (c .before .before .before .before .before .fits2 .ensures) (c .before .before .before .before .if1 .taken) (c .before .before .before .scan .ensures) (c .before .seen .given .1)
-
-enum-told : tie.Need-enum-told
-enum-told c = search needs
 
 returns-2 : tie.Need-returns-2
 returns-2 c = len-bad _ (c .before .before .before .before .fits2 .ensures) (c .before .before .before .if1 .taken) (c .before .before .scan .ensures) (c .enum-told .given .1)
@@ -30,4 +21,5 @@ returns-3 c = len-not _ (c .before .fits2 .ensures) (c .if1 .left)
 pub len-spec : {M : Type 1} → statement M
 len-spec =
     tie.close
-    (tie.spec fits-requires scan-requires enum-known-seen returns enum-told returns-2 returns-3)
+    (tie.spec
+    (λ c κs. search needs) scan-requires (λ c. search needs) returns (λ c. search needs) returns-2 returns-3)

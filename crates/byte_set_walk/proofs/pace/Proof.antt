@@ -6,26 +6,8 @@ use Rattle.byte_set_walk.proofs.Steps.{pace-live, pace-bad, pace-none}
 use Rattle.byte_set_walk.proofs.pace.Statement.{statement}
 use Rattle.byte_set_walk.proofs.pace.Tie as tie
 
-add-next-live : tie.Need-add-next-live
-add-next-live c = search needs
-
-next-live-requires : tie.Need-next-live-requires
-next-live-requires c κs = search needs
-
-enum-known-next : tie.Need-enum-known-next
-enum-known-next c = search needs
-
-offset-at-requires : tie.Need-offset-at-requires
-offset-at-requires c κs = search needs
-
-cast-offset : tie.Need-cast-offset
-cast-offset c = search needs
-
 len-at-requires : tie.Need-len-at-requires
 len-at-requires c κs = omega (arith, next-inside _ _ _ (c .before .before .before .before .next-live .ensures) (c .before .before .next .given .1))
-
-cast-length : tie.Need-cast-length
-cast-length c = search needs
 
 add-t14 : tie.Need-add-t14
 add-t14 c = omega (arith, next-inside _ _ _ (c .before .before .before .before .before .next-live .ensures) (c .before .before .before .next .given .1))
@@ -35,18 +17,6 @@ add-t17 c = omega (arith, next-inside _ _ _ (c .before .before .before .before .
 
 sub-t18 : tie.Need-sub-t18
 sub-t18 c = omega (arith, next-inside _ _ _ (c .before .before .before .before .before .next-live .ensures) (c .before .before .before .next .given .1))
-
-enum-told : tie.Need-enum-told
-enum-told c = search needs
-
-refused-requires : tie.Need-refused-requires
-refused-requires c κs = search needs
-
-enum-told-2 : tie.Need-enum-told-2
-enum-told-2 c = search needs
-
-add-t20 : tie.Need-add-t20
-add-t20 c = search needs
 
 returns : tie.Need-returns
 returns c = pace-live _ _ _ (c .before .before .before .before .before .next-live .ensures) (c .before .before .before .next .given .1) (c .before .offset-at .ensures) (c .len-at .ensures .0)
@@ -61,20 +31,6 @@ pub pace-spec : {M : Type 1} → statement M
 pace-spec =
     tie.close
     (tie.spec
-    add-next-live
-    next-live-requires
-    enum-known-next
-    offset-at-requires
-    cast-offset
-    len-at-requires
-    cast-length
-    add-t14
-    add-t17
-    sub-t18
-    enum-told
-    refused-requires
-    enum-told-2
-    add-t20
-    returns
-    returns-2
-    returns-3)
+    (λ c. search needs) (λ c κs. search needs) (λ c. search needs) (λ c κs. search needs) (λ c. search needs) len-at-requires
+    (λ c. search needs) add-t14 add-t17 sub-t18 (λ c. search needs) (λ c κs. search needs) (λ c. search needs) (λ c. search needs) returns
+    returns-2 returns-3)

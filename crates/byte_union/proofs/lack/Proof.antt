@@ -9,35 +9,11 @@ use Rattle.byte_union.proofs.lack.Tie as tie
 mark-at-requires : tie.Need-mark-at-requires
 mark-at-requires c κs = let z = fitting-says _ (c .before .before .before .before .before .before .before .before .pre .1) in (c .before .before .before .before .before .before .before .before .pre .2, z .offsets, z .lengths)
 
-offset-at-requires : tie.Need-offset-at-requires
-offset-at-requires c κs = search needs
-
-cast-start : tie.Need-cast-start
-cast-start c = search needs
-
 len-at-requires : tie.Need-len-at-requires
 len-at-requires c κs = let z = fitting-says _ (c .before .before .before .before .before .before .before .before .before .before .before .pre .1) in omega (arith, c .before .before .before .before .before .before .before .before .before .before .before .pre .2, z .lengths)
 
-cast-len : tie.Need-cast-len
-cast-len c = search needs
-
-add-end : tie.Need-add-end
-add-end c = search needs
-
-sub-probe : tie.Need-sub-probe
-sub-probe c = search needs
-
-part-probe-start : tie.Need-part-probe-start
-part-probe-start c = search needs
-
 part-probe-end : tie.Need-part-probe-end
 part-probe-end c = span-within _ _ (c .before .before .before .mark-at .ensures) (c .before .before .if1 .taken) (c .before .offset-at .ensures) (c .len-at .ensures .0)
-
-probe-requires : tie.Need-probe-requires
-probe-requires c κs = search needs
-
-needed-by-requires : tie.Need-needed-by-requires
-needed-by-requires c κs = search needs
 
 returns : tie.Need-returns
 returns c = lack-live _ _ _ (c .before .before .before .before .before .before .mark-at .ensures) (c .before .before .before .before .before .if1 .taken) (c .before .before .before .before .offset-at .ensures) (c .before .before .before .len-at .ensures .0) (search needs) (c .before .before .before .before .before .before .before .before .before .before .before .before .before .before .before .pre .0) (c .before .probe .ensures) (c .needed-by .ensures)
@@ -49,16 +25,5 @@ pub lack-spec : {M : Type 1} → statement M
 lack-spec =
     tie.close
     (tie.spec
-    mark-at-requires
-    offset-at-requires
-    cast-start
-    len-at-requires
-    cast-len
-    add-end
-    sub-probe
-    part-probe-start
-    part-probe-end
-    probe-requires
-    needed-by-requires
-    returns
-    returns-2)
+    mark-at-requires (λ c κs. search needs) (λ c. search needs) len-at-requires (λ c. search needs) (λ c. search needs) (λ c. search needs)
+    (λ c. search needs) part-probe-end (λ c κs. search needs) (λ c κs. search needs) returns returns-2)

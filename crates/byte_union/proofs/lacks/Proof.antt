@@ -26,12 +26,6 @@ add-slots c = let few = fitting-says _ (c .before .before .before .before .befor
 add-bytes : tie.Need-add-bytes Inv-loop μ-loop
 add-bytes c = let few = fitting-says _ (c .before .before .before .before .before .before .before .before .before .before .before .before .before .pre .1) .few in search needs
 
-add-i : tie.Need-add-i Inv-loop μ-loop
-add-i c = search needs
-
-loop-less : tie.Need-loop-less Inv-loop μ-loop
-loop-less c = search needs
-
 loop-again : tie.Need-loop-again Inv-loop μ-loop
 loop-again c = need-more (c .before .before .before .before .loop .inv) (c .before .before .before .loop-test .taken) (c .before .before .lack .ensures)
 
@@ -42,13 +36,4 @@ pub lacks-spec : {M : Type 1} → statement M
 lacks-spec =
     tie.close
     (tie.spec
-    Inv-loop
-    μ-loop
-    loop-holds
-    lack-requires
-    add-slots
-    add-bytes
-    add-i
-    loop-less
-    loop-again
-    returns)
+    Inv-loop μ-loop loop-holds lack-requires add-slots add-bytes (λ c. search needs) (λ c. search needs) loop-again returns)

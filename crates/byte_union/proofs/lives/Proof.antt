@@ -16,20 +16,8 @@ abbrev μ-loop : tie.MeasureT-loop
 loop-holds : tie.Need-loop-holds Inv-loop μ-loop
 loop-holds c = count-start _
 
-shared-slice-read-count-mark : tie.Need-shared-slice-read-count-mark Inv-loop μ-loop
-shared-slice-read-count-mark c = search needs
-
-count-mark-requires : tie.Need-count-mark-requires Inv-loop μ-loop
-count-mark-requires c κs = search needs
-
 add-live : tie.Need-add-live Inv-loop μ-loop
 add-live c = let one = counted-low _ (c .count-mark .ensures) in search needs
-
-add-i : tie.Need-add-i Inv-loop μ-loop
-add-i c = search needs
-
-loop-less : tie.Need-loop-less Inv-loop μ-loop
-loop-less c = search needs
 
 loop-again : tie.Need-loop-again Inv-loop μ-loop
 loop-again c = count-more (c .before .before .before .loop .inv) (c .before .before .loop-test .taken) (c .count-mark .ensures)
@@ -41,13 +29,5 @@ pub lives-spec : {M : Type 1} → statement M
 lives-spec =
     tie.close
     (tie.spec
-    Inv-loop
-    μ-loop
-    loop-holds
-    shared-slice-read-count-mark
-    count-mark-requires
-    add-live
-    add-i
-    loop-less
-    loop-again
+    Inv-loop μ-loop loop-holds (λ c. search needs) (λ c κs. search needs) add-live (λ c. search needs) (λ c. search needs) loop-again
     returns)

@@ -5,12 +5,6 @@ use Rattle.byte_union.proofs.Plans.{left-unfit, right-unfit, room-plan}
 use Rattle.byte_union.proofs.plan.Statement.{statement}
 use Rattle.byte_union.proofs.plan.Tie as tie
 
-map-fits-requires : tie.Need-map-fits-requires
-map-fits-requires c κs = search needs
-
-map-fits-requires-2 : tie.Need-map-fits-requires-2
-map-fits-requires-2 c κs = search needs
-
 room-requires : tie.Need-room-requires
 room-requires c κs = (sized-fits _ (c .before .before .before .map-fits .ensures) (c .before .before .if1 .taken), sized-fits _ (c .before .map-fits2 .ensures) (c .if2 .taken))
 
@@ -26,4 +20,5 @@ returns-3 c = left-unfit _ _ (c .before .map-fits .ensures) (c .if1 .left)
 pub plan-spec : {M : Type 1} → statement M
 plan-spec =
     tie.close
-    (tie.spec map-fits-requires map-fits-requires-2 room-requires returns returns-2 returns-3)
+    (tie.spec
+    (λ c κs. search needs) (λ c κs. search needs) room-requires returns returns-2 returns-3)

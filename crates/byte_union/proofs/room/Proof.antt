@@ -4,35 +4,11 @@ use Rattle.byte_union.proofs.Rooms.{lives-within, used-inside, left-bad
 use Rattle.byte_union.proofs.room.Statement.{statement}
 use Rattle.byte_union.proofs.room.Tie as tie
 
-survey-requires : tie.Need-survey-requires
-survey-requires c κs = search needs
-
-enum-known-found : tie.Need-enum-known-found
-enum-known-found c = search needs
-
-enum-told : tie.Need-enum-told
-enum-told c = search needs
-
 returns : tie.Need-returns
 returns c = left-bad _ _ (c .before .before .survey .ensures) (c .enum-told .given .1)
 
-survey-requires-2 : tie.Need-survey-requires-2
-survey-requires-2 c κs = search needs
-
-enum-told-2 : tie.Need-enum-told-2
-enum-told-2 c = search needs
-
-enum-told-3 : tie.Need-enum-told-3
-enum-told-3 c = search needs
-
 returns-2 : tie.Need-returns-2
 returns-2 c = right-bad _ _ (c .before .before .before .before .before .before .survey .ensures) (c .before .before .before .before .found .given .1) (c .before .before .survey2 .ensures) (c .enum-told3 .given .1)
-
-lacks-requires : tie.Need-lacks-requires
-lacks-requires c κs = search needs
-
-lives-requires : tie.Need-lives-requires
-lives-requires c κs = search needs
 
 sub-if1 : tie.Need-sub-if1
 sub-if1 c = lives-within _ (c .lives .ensures)
@@ -53,18 +29,5 @@ pub room-spec : {M : Type 1} → statement M
 room-spec =
     tie.close
     (tie.spec
-    survey-requires
-    enum-known-found
-    enum-told
-    returns
-    survey-requires-2
-    enum-told-2
-    enum-told-3
-    returns-2
-    lacks-requires
-    lives-requires
-    sub-if1
-    sub-if2
-    returns-3
-    returns-4
-    returns-5)
+    (λ c κs. search needs) (λ c. search needs) (λ c. search needs) returns (λ c κs. search needs) (λ c. search needs) (λ c. search needs)
+    returns-2 (λ c κs. search needs) (λ c κs. search needs) sub-if1 sub-if2 returns-3 returns-4 returns-5)

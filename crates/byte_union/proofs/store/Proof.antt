@@ -5,38 +5,14 @@ use Rattle.byte_union.proofs.Storing.{hit-inside, store-hit, free-filla
 use Rattle.byte_union.proofs.store.Statement.{statement}
 use Rattle.byte_union.proofs.store.Tie as tie
 
-probe-requires : tie.Need-probe-requires
-probe-requires c κs = search needs
-
-enum-known-seen : tie.Need-enum-known-seen
-enum-known-seen c = search needs
-
 mul-values : tie.Need-mul-values
 mul-values c = let (a, b) = hit-inside _ _ _ (c .before .before .before .before .before .before .before .before .before .before .before .before .before .before .pre) (c .before .before .before .probe .ensures) (c .before .seen .given .1) in search needs
 
 slice-write-values : tie.Need-slice-write-values
 slice-write-values c = let (a, b) = hit-inside _ _ _ (c .before .before .before .before .before .before .before .before .before .before .before .before .before .before .pre) (c .before .before .before .probe .ensures) (c .before .seen .given .1) in omega arith
 
-same-length : tie.Need-same-length
-same-length c = search needs
-
-same-length-2 : tie.Need-same-length-2
-same-length-2 c = search needs
-
-same-length-3 : tie.Need-same-length-3
-same-length-3 c = search needs
-
-same-length-4 : tie.Need-same-length-4
-same-length-4 c = search needs
-
-same-length-5 : tie.Need-same-length-5
-same-length-5 c = search needs
-
 returns : tie.Need-returns
 returns c = store-hit _ _ _ (c .before .before .before .before .before .before .before .before .before .before .before .before .before .before .pre) (c .before .before .before .probe .ensures) (c .before .seen .given .1)
-
-enum-known-seen-2 : tie.Need-enum-known-seen-2
-enum-known-seen-2 c = search needs
 
 fill-requires : tie.Need-fill-requires
 fill-requires c κs = free-fillable _ _ _ (c .before .before .before .before .before .before .before .before .before .before .before .before .before .before .before .before .before .before .pre) (c .before .before .before .before .before .before .before .probe .ensures) (c .before .before .before .before .before .seen2 .given .1)
@@ -50,56 +26,11 @@ slice-write-values-2 c = free-inside _ _ _ (c .before .before .before .before .b
 add-result : tie.Need-add-result
 add-result c = let (a, b, d) = free-inside _ _ _ (c .before .before .before .before .before .before .before .before .before .before .before .before .before .before .before .before .before .before .before .before .before .before .before .before .before .before .before .pre) (c .before .before .before .before .before .before .before .before .before .before .before .before .before .before .before .before .probe .ensures) (c .before .before .before .before .before .before .before .before .before .before .before .before .before .before .seen2 .given .1) in search needs
 
-same-length-6 : tie.Need-same-length-6
-same-length-6 c = search needs
-
-same-length-7 : tie.Need-same-length-7
-same-length-7 c = search needs
-
-same-length-8 : tie.Need-same-length-8
-same-length-8 c = search needs
-
-same-length-9 : tie.Need-same-length-9
-same-length-9 c = search needs
-
-same-length-10 : tie.Need-same-length-10
-same-length-10 c = search needs
-
 returns-2 : tie.Need-returns-2
 returns-2 c = store-free _ _ _ (c .before .before .before .before .before .before .before .before .before .before .before .before .before .before .before .before .before .before .before .before .before .before .before .before .before .before .before .pre) (c .before .before .before .before .before .before .before .before .before .before .before .before .before .before .before .before .probe .ensures) (c .before .before .before .before .before .before .before .before .before .before .before .before .before .before .seen2 .given .1) (c .before .before .before .before .before .before .before .before .fill .ensures)
 
-enum-told : tie.Need-enum-told
-enum-told c = search needs
-
-same-length-11 : tie.Need-same-length-11
-same-length-11 c = search needs
-
-same-length-12 : tie.Need-same-length-12
-same-length-12 c = search needs
-
-same-length-13 : tie.Need-same-length-13
-same-length-13 c = search needs
-
-same-length-14 : tie.Need-same-length-14
-same-length-14 c = search needs
-
 returns-3 : tie.Need-returns-3
 returns-3 c = store-full _ _ _ (c .before .before .before .before .before .before .before .before .before .before .before .before .before .pre) (c .before .before .probe .ensures) (c .enum-told .given .1)
-
-enum-told-2 : tie.Need-enum-told-2
-enum-told-2 c = search needs
-
-same-length-15 : tie.Need-same-length-15
-same-length-15 c = search needs
-
-same-length-16 : tie.Need-same-length-16
-same-length-16 c = search needs
-
-same-length-17 : tie.Need-same-length-17
-same-length-17 c = search needs
-
-same-length-18 : tie.Need-same-length-18
-same-length-18 c = search needs
 
 returns-4 : tie.Need-returns-4
 returns-4 c = store-refused _ _ _ (c .before .before .before .before .before .before .before .before .before .before .before .before .before .pre) (c .before .before .probe .ensures) (c .enum-told2 .given .1)
@@ -108,36 +39,8 @@ pub store-spec : {M : Type 1} → statement M
 store-spec =
     tie.close
     (tie.spec
-    probe-requires
-    enum-known-seen
-    mul-values
-    slice-write-values
-    same-length
-    same-length-2
-    same-length-3
-    same-length-4
-    same-length-5
-    returns
-    enum-known-seen-2
-    fill-requires
-    mul-values-2
-    slice-write-values-2
-    add-result
-    same-length-6
-    same-length-7
-    same-length-8
-    same-length-9
-    same-length-10
-    returns-2
-    enum-told
-    same-length-11
-    same-length-12
-    same-length-13
-    same-length-14
-    returns-3
-    enum-told-2
-    same-length-15
-    same-length-16
-    same-length-17
-    same-length-18
-    returns-4)
+    (λ c κs. search needs) (λ c. search needs) mul-values slice-write-values (λ c. search needs) (λ c. search needs) (λ c. search needs)
+    (λ c. search needs) (λ c. search needs) returns (λ c. search needs) fill-requires mul-values-2 slice-write-values-2 add-result
+    (λ c. search needs) (λ c. search needs) (λ c. search needs) (λ c. search needs) (λ c. search needs) returns-2 (λ c. search needs)
+    (λ c. search needs) (λ c. search needs) (λ c. search needs) (λ c. search needs) returns-3 (λ c. search needs) (λ c. search needs)
+    (λ c. search needs) (λ c. search needs) (λ c. search needs) returns-4)

@@ -14,21 +14,6 @@ Inv-loop start x h₀ rest₀ left₀ h rest left = moreOf h (le left rest) ≡ 
 abbrev μ-loop : tie.MeasureT-loop
 μ-loop start x h₀ rest₀ left₀ h rest left = left
 
-loop-holds : tie.Need-loop-holds Inv-loop μ-loop
-loop-holds c = search needs
-
-cast-mix : tie.Need-cast-mix Inv-loop μ-loop
-cast-mix c = search needs
-
-mix-requires : tie.Need-mix-requires Inv-loop μ-loop
-mix-requires c κs = search needs
-
-sub-left : tie.Need-sub-left Inv-loop μ-loop
-sub-left c = search needs
-
-loop-less : tie.Need-loop-less Inv-loop μ-loop
-loop-less c = search needs
-
 loop-again : tie.Need-loop-again Inv-loop μ-loop
 loop-again c = word-turn _ _ _ _ (search needs) (c .mix .ensures) ∙ c .before .before .loop .inv
 
@@ -39,12 +24,5 @@ pub digest-word-spec : {M : Type 1} → statement M
 digest-word-spec =
     tie.close
     (tie.spec
-    Inv-loop
-    μ-loop
-    loop-holds
-    cast-mix
-    mix-requires
-    sub-left
-    loop-less
-    loop-again
+    Inv-loop μ-loop (λ c. search needs) (λ c. search needs) (λ c κs. search needs) (λ c. search needs) (λ c. search needs) loop-again
     returns)

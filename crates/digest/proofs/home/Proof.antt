@@ -7,12 +7,6 @@ use Rattle.digest.proofs.Refusals.{home-unfit, home-long, home-fit}
 use Rattle.digest.proofs.home.Statement.{statement}
 use Rattle.digest.proofs.home.Tie as tie
 
-slots-fit-requires : tie.Need-slots-fit-requires
-slots-fit-requires c κs = search needs
-
-slot-of-key-requires : tie.Need-slot-of-key-requires
-slot-of-key-requires c κs = search needs
-
 returns : tie.Need-returns
 returns c =
     ap At (c .slot-of-key .ensures)
@@ -28,4 +22,5 @@ returns-3 c = sym (home-unfit _ _ _ (sym (c .before .slots-fit .ensures) ∙ c .
 
 pub home-spec : {M : Type 1} → statement M
 home-spec =
-    tie.close (tie.spec slots-fit-requires slot-of-key-requires returns returns-2 returns-3)
+    tie.close (tie.spec
+    (λ c κs. search needs) (λ c κs. search needs) returns returns-2 returns-3)

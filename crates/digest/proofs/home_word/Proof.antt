@@ -7,12 +7,6 @@ use Rattle.digest.proofs.Refusals.{word-unfit, word-fit}
 use Rattle.digest.proofs.home_word.Statement.{statement}
 use Rattle.digest.proofs.home_word.Tie as tie
 
-slots-fit-requires : tie.Need-slots-fit-requires
-slots-fit-requires c κs = search needs
-
-slot-of-word-requires : tie.Need-slot-of-word-requires
-slot-of-word-requires c κs = search needs
-
 returns : tie.Need-returns
 returns c =
     ap At (c .slot-of-word .ensures)
@@ -22,4 +16,5 @@ returns-2 : tie.Need-returns-2
 returns-2 c = sym (word-unfit _ _ _ (sym (c .before .slots-fit .ensures) ∙ c .if1 .left))
 
 pub home-word-spec : {M : Type 1} → statement M
-home-word-spec = tie.close (tie.spec slots-fit-requires slot-of-word-requires returns returns-2)
+home-word-spec = tie.close (tie.spec
+    (λ c κs. search needs) (λ c κs. search needs) returns returns-2)

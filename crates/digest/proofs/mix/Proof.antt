@@ -5,12 +5,10 @@ use Rattle.digest.specs.Digest.{mixOf}
 use Rattle.digest.proofs.mix.Statement.{statement}
 use Rattle.digest.proofs.mix.Tie as tie
 
-times-prime-requires : tie.Need-times-prime-requires
-times-prime-requires c κs = search needs
-
 returns : tie.Need-returns
 unfolding mixOf
 returns c = c .times-prime .ensures
 
 pub mix-spec : {M : Type 1} → statement M
-mix-spec = tie.close (tie.spec times-prime-requires returns)
+mix-spec = tie.close (tie.spec
+    (λ c κs. search needs) returns)

@@ -6,14 +6,9 @@ use Rattle.digest.specs.Home.{slotOf}
 use Rattle.digest.proofs.slot_of_word.Statement.{statement}
 use Rattle.digest.proofs.slot_of_word.Tie as tie
 
-digest-word-requires : tie.Need-digest-word-requires
-digest-word-requires c κs = search needs
-
-slot-of-requires : tie.Need-slot-of-requires
-slot-of-requires c κs = search needs
-
 returns : tie.Need-returns
 returns c = c .slot-of .ensures ∙ ap (λ d. slotOf d (c .before .before .args .slots)) (c .before .digest-word .ensures)
 
 pub slot-of-word-spec : {M : Type 1} → statement M
-slot-of-word-spec = tie.close (tie.spec digest-word-requires slot-of-requires returns)
+slot-of-word-spec = tie.close (tie.spec
+    (λ c κs. search needs) (λ c κs. search needs) returns)

@@ -6,26 +6,11 @@ use borrow.Author.Needs.{needs}
 use Rattle.int_entry.proofs.entry.Statement.{statement}
 use Rattle.int_entry.proofs.entry.Tie as tie
 
-seek-requires : tie.Need-seek-requires
-seek-requires c κs = search needs
-
-enum-known-seen : tie.Need-enum-known-seen
-enum-known-seen c = search needs
-
 mul-t13 : tie.Need-mul-t13
 mul-t13 c = let (a, b, d) = hit-inside _ _ _ _ (c .before .before .before .seek .ensures) (c .before .seen .given .1) in search needs
 
 shared-slice-read-t15 : tie.Need-shared-slice-read-t15
 shared-slice-read-t15 c = let (a, b, d) = hit-inside _ _ _ _ (c .before .before .before .before .seek .ensures) (c .before .before .seen .given .1) in omega arith
-
-enum-known-seen-2 : tie.Need-enum-known-seen-2
-enum-known-seen-2 c = search needs
-
-enum-told : tie.Need-enum-told
-enum-told c = search needs
-
-enum-known-seen-3 : tie.Need-enum-known-seen-3
-enum-known-seen-3 c = search needs
 
 returns : tie.Need-returns
 returns c = entry-hit _ _ _ _ (c .before .before .before .before .seek .ensures) (c .before .before .seen .given .1)
@@ -43,14 +28,5 @@ pub entry-spec : {M : Type 1} → statement M
 entry-spec =
     tie.close
     (tie.spec
-    seek-requires
-    enum-known-seen
-    mul-t13
-    shared-slice-read-t15
-    enum-known-seen-2
-    enum-told
-    enum-known-seen-3
-    returns
-    returns-2
-    returns-3
-    returns-4)
+    (λ c κs. search needs) (λ c. search needs) mul-t13 shared-slice-read-t15 (λ c. search needs) (λ c. search needs) (λ c. search needs)
+    returns returns-2 returns-3 returns-4)

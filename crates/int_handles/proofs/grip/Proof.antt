@@ -6,12 +6,6 @@ use borrow.Author.Needs.{needs}
 use Rattle.int_handles.proofs.grip.Statement.{statement}
 use Rattle.int_handles.proofs.grip.Tie as tie
 
-map-fits-requires : tie.Need-map-fits-requires
-map-fits-requires c κs = search needs
-
-shared-slice-read-held-in : tie.Need-shared-slice-read-held-in
-shared-slice-read-held-in c = search needs
-
 mul-held-in : tie.Need-mul-held-in
 mul-held-in c = let (a, b) = same-long _ _ _ (c .before .before .before .map-fits .ensures) (c .before .before .if1 .taken) in search needs
 
@@ -23,9 +17,6 @@ mul-held-in-2 c = let (a, b) = same-long _ _ _ (c .before .before .before .befor
 
 shared-slice-read-held-in-3 : tie.Need-shared-slice-read-held-in-3
 shared-slice-read-held-in-3 c = let (a, b) = same-long _ _ _ (c .before .before .before .before .before .map-fits .ensures) (c .before .before .before .before .if1 .taken) in omega arith
-
-held-in-requires : tie.Need-held-in-requires
-held-in-requires c κs = search needs
 
 returns : tie.Need-returns
 returns c = grip-held _ _ _ _ _ (c .before .before .before .before .before .before .map-fits .ensures) (c .before .before .before .before .before .if1 .taken) (c .before .before .before .before .if2 .taken) (c .held-in .ensures)
@@ -40,13 +31,5 @@ pub grip-spec : {M : Type 1} → statement M
 grip-spec =
     tie.close
     (tie.spec
-    map-fits-requires
-    shared-slice-read-held-in
-    mul-held-in
-    shared-slice-read-held-in-2
-    mul-held-in-2
-    shared-slice-read-held-in-3
-    held-in-requires
-    returns
-    returns-2
-    returns-3)
+    (λ c κs. search needs) (λ c. search needs) mul-held-in shared-slice-read-held-in-2 mul-held-in-2 shared-slice-read-held-in-3
+    (λ c κs. search needs) returns returns-2 returns-3)

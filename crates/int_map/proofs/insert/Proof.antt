@@ -6,12 +6,6 @@ use Rattle.int_map.proofs.Laws.{insert-hit, insert-free, insert-full, i
 use Rattle.int_map.proofs.insert.Statement.{statement}
 use Rattle.int_map.proofs.insert.Tie as tie
 
-seek-requires : tie.Need-seek-requires
-seek-requires c κs = search needs
-
-enum-known-seen : tie.Need-enum-known-seen
-enum-known-seen c = search needs
-
 mul-old : tie.Need-mul-old
 mul-old c = omega (arith, hit-inside _ _ _ _ (c .before .before .before .seek .ensures) (c .before .seen .given .1))
 
@@ -23,9 +17,6 @@ mul-values c = omega (arith, hit-inside _ _ _ _ (c .before .before .before .befo
 
 slice-write-values : tie.Need-slice-write-values
 slice-write-values c = hit-inside _ _ _ _ (c .before .before .before .before .seek .ensures) (c .before .before .seen .given .1) .2
-
-enum-known-seen-2 : tie.Need-enum-known-seen-2
-enum-known-seen-2 c = search needs
 
 slice-write-marks : tie.Need-slice-write-marks
 slice-write-marks c = free-inside _ _ _ _ (c .before .before .before .seek .ensures) (c .before .seen2 .given .1) .0
@@ -42,56 +33,14 @@ mul-values-2 c = omega (arith, free-inside _ _ _ _ (c .before .before .before .s
 slice-write-values-2 : tie.Need-slice-write-values-2
 slice-write-values-2 c = free-inside _ _ _ _ (c .before .before .before .seek .ensures) (c .before .seen2 .given .1) .2
 
-enum-told : tie.Need-enum-told
-enum-told c = search needs
-
-enum-known-seen-3 : tie.Need-enum-known-seen-3
-enum-known-seen-3 c = search needs
-
-same-length : tie.Need-same-length
-same-length c = search needs
-
-same-length-2 : tie.Need-same-length-2
-same-length-2 c = search needs
-
-same-length-3 : tie.Need-same-length-3
-same-length-3 c = search needs
-
 returns : tie.Need-returns
 returns c = insert-hit _ _ _ _ (c .before .before .before .before .seek .ensures) _ (c .before .before .seen .given .1)
-
-same-length-4 : tie.Need-same-length-4
-same-length-4 c = search needs
-
-same-length-5 : tie.Need-same-length-5
-same-length-5 c = search needs
-
-same-length-6 : tie.Need-same-length-6
-same-length-6 c = search needs
 
 returns-2 : tie.Need-returns-2
 returns-2 c = insert-free _ _ _ _ (c .before .before .before .seek .ensures) _ (c .before .seen2 .given .1)
 
-same-length-7 : tie.Need-same-length-7
-same-length-7 c = search needs
-
-same-length-8 : tie.Need-same-length-8
-same-length-8 c = search needs
-
-same-length-9 : tie.Need-same-length-9
-same-length-9 c = search needs
-
 returns-3 : tie.Need-returns-3
 returns-3 c = insert-full _ _ _ _ (c .before .before .seek .ensures) _ (c .enum-told .given .1)
-
-same-length-10 : tie.Need-same-length-10
-same-length-10 c = search needs
-
-same-length-11 : tie.Need-same-length-11
-same-length-11 c = search needs
-
-same-length-12 : tie.Need-same-length-12
-same-length-12 c = search needs
 
 returns-4 : tie.Need-returns-4
 returns-4 c = insert-refused _ _ _ _ (c .before .before .before .seek .ensures) _ (c .before .seen3 .given .1)
@@ -100,33 +49,8 @@ pub insert-spec : {M : Type 1} → statement M
 insert-spec =
     tie.close
     (tie.spec
-    seek-requires
-    enum-known-seen
-    mul-old
-    slice-read-old
-    mul-values
-    slice-write-values
-    enum-known-seen-2
-    slice-write-marks
-    mul-keys
-    slice-write-keys
-    mul-values-2
-    slice-write-values-2
-    enum-told
-    enum-known-seen-3
-    same-length
-    same-length-2
-    same-length-3
-    returns
-    same-length-4
-    same-length-5
-    same-length-6
-    returns-2
-    same-length-7
-    same-length-8
-    same-length-9
-    returns-3
-    same-length-10
-    same-length-11
-    same-length-12
+    (λ c κs. search needs) (λ c. search needs) mul-old slice-read-old mul-values slice-write-values (λ c. search needs) slice-write-marks
+    mul-keys slice-write-keys mul-values-2 slice-write-values-2 (λ c. search needs) (λ c. search needs) (λ c. search needs)
+    (λ c. search needs) (λ c. search needs) returns (λ c. search needs) (λ c. search needs) (λ c. search needs) returns-2
+    (λ c. search needs) (λ c. search needs) (λ c. search needs) returns-3 (λ c. search needs) (λ c. search needs) (λ c. search needs)
     returns-4)

@@ -6,12 +6,6 @@ use Rattle.int_map.proofs.Laws.{remove-hit, remove-free, remove-full, r
 use Rattle.int_map.proofs.remove.Statement.{statement}
 use Rattle.int_map.proofs.remove.Tie as tie
 
-seek-requires : tie.Need-seek-requires
-seek-requires c κs = search needs
-
-enum-known-seen : tie.Need-enum-known-seen
-enum-known-seen c = search needs
-
 mul-old : tie.Need-mul-old
 mul-old c = omega (arith, hit-inside _ _ _ _ (c .before .before .before .seek .ensures) (c .before .seen .given .1))
 
@@ -33,59 +27,14 @@ mul-values c = omega (arith, hit-inside _ _ _ _ (c .before .before .before .befo
 slice-write-values : tie.Need-slice-write-values
 slice-write-values c = hit-inside _ _ _ _ (c .before .before .before .before .seek .ensures) (c .before .before .seen .given .1) .2
 
-enum-known-seen-2 : tie.Need-enum-known-seen-2
-enum-known-seen-2 c = search needs
-
-enum-known-seen-3 : tie.Need-enum-known-seen-3
-enum-known-seen-3 c = search needs
-
-enum-known-seen-4 : tie.Need-enum-known-seen-4
-enum-known-seen-4 c = search needs
-
-same-length : tie.Need-same-length
-same-length c = search needs
-
-same-length-2 : tie.Need-same-length-2
-same-length-2 c = search needs
-
-same-length-3 : tie.Need-same-length-3
-same-length-3 c = search needs
-
 returns : tie.Need-returns
 returns c = remove-hit _ _ _ _ (c .before .before .before .before .seek .ensures) (c .before .before .seen .given .1)
-
-same-length-4 : tie.Need-same-length-4
-same-length-4 c = search needs
-
-same-length-5 : tie.Need-same-length-5
-same-length-5 c = search needs
-
-same-length-6 : tie.Need-same-length-6
-same-length-6 c = search needs
 
 returns-2 : tie.Need-returns-2
 returns-2 c = remove-free _ _ _ _ (c .before .before .before .seek .ensures) (c .before .seen2 .given .1)
 
-same-length-7 : tie.Need-same-length-7
-same-length-7 c = search needs
-
-same-length-8 : tie.Need-same-length-8
-same-length-8 c = search needs
-
-same-length-9 : tie.Need-same-length-9
-same-length-9 c = search needs
-
 returns-3 : tie.Need-returns-3
 returns-3 c = remove-full _ _ _ _ (c .before .before .before .seek .ensures) (c .before .seen3 .given .1)
-
-same-length-10 : tie.Need-same-length-10
-same-length-10 c = search needs
-
-same-length-11 : tie.Need-same-length-11
-same-length-11 c = search needs
-
-same-length-12 : tie.Need-same-length-12
-same-length-12 c = search needs
 
 returns-4 : tie.Need-returns-4
 returns-4 c = remove-refused _ _ _ _ (c .before .before .before .seek .ensures) (c .before .seen4 .given .1)
@@ -94,31 +43,7 @@ pub remove-spec : {M : Type 1} → statement M
 remove-spec =
     tie.close
     (tie.spec
-    seek-requires
-    enum-known-seen
-    mul-old
-    slice-read-old
-    slice-write-marks
-    mul-keys
-    slice-write-keys
-    mul-values
-    slice-write-values
-    enum-known-seen-2
-    enum-known-seen-3
-    enum-known-seen-4
-    same-length
-    same-length-2
-    same-length-3
-    returns
-    same-length-4
-    same-length-5
-    same-length-6
-    returns-2
-    same-length-7
-    same-length-8
-    same-length-9
-    returns-3
-    same-length-10
-    same-length-11
-    same-length-12
-    returns-4)
+    (λ c κs. search needs) (λ c. search needs) mul-old slice-read-old slice-write-marks mul-keys slice-write-keys mul-values
+    slice-write-values (λ c. search needs) (λ c. search needs) (λ c. search needs) (λ c. search needs) (λ c. search needs)
+    (λ c. search needs) returns (λ c. search needs) (λ c. search needs) (λ c. search needs) returns-2 (λ c. search needs)
+    (λ c. search needs) (λ c. search needs) returns-3 (λ c. search needs) (λ c. search needs) (λ c. search needs) returns-4)

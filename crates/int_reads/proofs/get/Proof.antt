@@ -6,26 +6,11 @@ use Rattle.int_reads.proofs.Laws.{get-hit, get-free, get-full, get-refu
 use Rattle.int_reads.proofs.get.Statement.{statement}
 use Rattle.int_reads.proofs.get.Tie as tie
 
-seek-requires : tie.Need-seek-requires
-seek-requires c κs = search needs
-
-enum-known-seen : tie.Need-enum-known-seen
-enum-known-seen c = search needs
-
 mul-t12 : tie.Need-mul-t12
 mul-t12 c = omega (arith, hit-inside _ _ _ _ (c .before .before .before .seek .ensures) (c .before .seen .given .1))
 
 shared-slice-read-t14 : tie.Need-shared-slice-read-t14
 shared-slice-read-t14 c = hit-inside _ _ _ _ (c .before .before .before .before .seek .ensures) (c .before .before .seen .given .1) .2
-
-enum-known-seen-2 : tie.Need-enum-known-seen-2
-enum-known-seen-2 c = search needs
-
-enum-known-seen-3 : tie.Need-enum-known-seen-3
-enum-known-seen-3 c = search needs
-
-enum-known-seen-4 : tie.Need-enum-known-seen-4
-enum-known-seen-4 c = search needs
 
 returns : tie.Need-returns
 returns c = get-hit _ _ _ _ (c .before .before .before .before .seek .ensures) (c .before .before .seen .given .1)
@@ -43,14 +28,5 @@ pub get-spec : {M : Type 1} → statement M
 get-spec =
     tie.close
     (tie.spec
-    seek-requires
-    enum-known-seen
-    mul-t12
-    shared-slice-read-t14
-    enum-known-seen-2
-    enum-known-seen-3
-    enum-known-seen-4
-    returns
-    returns-2
-    returns-3
-    returns-4)
+    (λ c κs. search needs) (λ c. search needs) mul-t12 shared-slice-read-t14 (λ c. search needs) (λ c. search needs) (λ c. search needs)
+    returns returns-2 returns-3 returns-4)

@@ -6,15 +6,6 @@ use Rattle.int_set_walk.proofs.Steps.{pace-live, pace-bad, pace-none}
 use Rattle.int_set_walk.proofs.pace.Statement.{statement}
 use Rattle.int_set_walk.proofs.pace.Tie as tie
 
-add-next-live : tie.Need-add-next-live
-add-next-live c = search needs
-
-next-live-requires : tie.Need-next-live-requires
-next-live-requires c κs = search needs
-
-enum-known-next : tie.Need-enum-known-next
-enum-known-next c = search needs
-
 add-t9 : tie.Need-add-t9
 add-t9 c = omega (arith, next-inside _ _ _ (c .before .before .before .next-live .ensures) (c .before .next .given .1))
 
@@ -30,18 +21,6 @@ add-t15 c = omega (arith, next-inside _ _ _ (c .before .before .before .before .
 sub-t16 : tie.Need-sub-t16
 sub-t16 c = omega (arith, next-inside _ _ _ (c .before .before .before .before .next-live .ensures) (c .before .before .next .given .1))
 
-enum-told : tie.Need-enum-told
-enum-told c = search needs
-
-refused-requires : tie.Need-refused-requires
-refused-requires c κs = search needs
-
-enum-told-2 : tie.Need-enum-told-2
-enum-told-2 c = search needs
-
-add-t18 : tie.Need-add-t18
-add-t18 c = search needs
-
 returns : tie.Need-returns
 returns c = pace-live _ _ _ _ (c .before .before .before .before .next-live .ensures) (c .before .before .next .given .1)
 
@@ -55,18 +34,5 @@ pub pace-spec : {M : Type 1} → statement M
 pace-spec =
     tie.close
     (tie.spec
-    add-next-live
-    next-live-requires
-    enum-known-next
-    add-t9
-    mul-t11
-    shared-slice-read-t13
-    add-t15
-    sub-t16
-    enum-told
-    refused-requires
-    enum-told-2
-    add-t18
-    returns
-    returns-2
-    returns-3)
+    (λ c. search needs) (λ c κs. search needs) (λ c. search needs) add-t9 mul-t11 shared-slice-read-t13 add-t15 sub-t16 (λ c. search needs)
+    (λ c κs. search needs) (λ c. search needs) (λ c. search needs) returns returns-2 returns-3)

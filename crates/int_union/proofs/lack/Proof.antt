@@ -4,29 +4,14 @@ use borrow.Author.Needs.{needs}
 use Rattle.int_union.proofs.lack.Statement.{statement}
 use Rattle.int_union.proofs.lack.Tie as tie
 
-seek-requires : tie.Need-seek-requires
-seek-requires c κs = search needs
-
-enum-told : tie.Need-enum-told
-enum-told c = search needs
-
 returns : tie.Need-returns
 returns c = lack-hit _ _ _ _ _ (c .before .before .before .before .before .before .before .pre) (c .before .before .before .if1 .taken) (c .before .before .seek .ensures) (c .enum-told .given .1)
-
-enum-told-2 : tie.Need-enum-told-2
-enum-told-2 c = search needs
 
 returns-2 : tie.Need-returns-2
 returns-2 c = lack-free _ _ _ _ _ (c .before .before .before .before .before .before .before .pre) (c .before .before .before .if1 .taken) (c .before .before .seek .ensures) (c .enum-told2 .given .1)
 
-enum-told-3 : tie.Need-enum-told-3
-enum-told-3 c = search needs
-
 returns-3 : tie.Need-returns-3
 returns-3 c = lack-full _ _ _ _ _ (c .before .before .before .before .before .before .before .pre) (c .before .before .before .if1 .taken) (c .before .before .seek .ensures) (c .enum-told3 .given .1)
-
-enum-told-4 : tie.Need-enum-told-4
-enum-told-4 c = search needs
 
 returns-4 : tie.Need-returns-4
 returns-4 c = lack-refused _ _ _ _ _ (c .before .before .before .before .before .before .before .pre) (c .before .before .before .if1 .taken) (c .before .before .seek .ensures) (c .enum-told4 .given .1)
@@ -38,13 +23,5 @@ pub lack-spec : {M : Type 1} → statement M
 lack-spec =
     tie.close
     (tie.spec
-    seek-requires
-    enum-told
-    returns
-    enum-told-2
-    returns-2
-    enum-told-3
-    returns-3
-    enum-told-4
-    returns-4
-    returns-5)
+    (λ c κs. search needs) (λ c. search needs) returns (λ c. search needs) returns-2 (λ c. search needs) returns-3 (λ c. search needs)
+    returns-4 returns-5)

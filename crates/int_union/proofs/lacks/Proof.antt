@@ -16,26 +16,11 @@ abbrev μ-loop : tie.MeasureT-loop
 loop-holds : tie.Need-loop-holds Inv-loop μ-loop
 loop-holds c = need-start _ _
 
-shared-slice-read-lack : tie.Need-shared-slice-read-lack Inv-loop μ-loop
-shared-slice-read-lack c = search needs
-
-mul-lack : tie.Need-mul-lack Inv-loop μ-loop
-mul-lack c = search needs
-
-shared-slice-read-lack-2 : tie.Need-shared-slice-read-lack-2 Inv-loop μ-loop
-shared-slice-read-lack-2 c = search needs
-
 lack-requires : tie.Need-lack-requires Inv-loop μ-loop
 lack-requires c κs = c .before .before .before .before .before .before .before .before .before .before .pre .0
 
 add-sum : tie.Need-add-sum Inv-loop μ-loop
 add-sum c = let b = lack-low _ _ _ (c .lack .ensures) in search needs
-
-add-i : tie.Need-add-i Inv-loop μ-loop
-add-i c = search needs
-
-loop-less : tie.Need-loop-less Inv-loop μ-loop
-loop-less c = search needs
 
 loop-again : tie.Need-loop-again Inv-loop μ-loop
 loop-again c = need-more (c .before .before .before .before .loop .inv) (c .before .before .before .loop-test .taken) (c .lack .ensures)
@@ -47,15 +32,5 @@ pub lacks-spec : {M : Type 1} → statement M
 lacks-spec =
     tie.close
     (tie.spec
-    Inv-loop
-    μ-loop
-    loop-holds
-    shared-slice-read-lack
-    mul-lack
-    shared-slice-read-lack-2
-    lack-requires
-    add-sum
-    add-i
-    loop-less
-    loop-again
-    returns)
+    Inv-loop μ-loop loop-holds (λ c. search needs) (λ c. search needs) (λ c. search needs) lack-requires add-sum (λ c. search needs)
+    (λ c. search needs) loop-again returns)

@@ -5,17 +5,8 @@ use borrow.Author.Needs.{needs}
 use Rattle.int_union.proofs.plan.Statement.{statement}
 use Rattle.int_union.proofs.plan.Tie as tie
 
-map-fits-requires : tie.Need-map-fits-requires
-map-fits-requires c κs = search needs
-
-map-fits-requires-2 : tie.Need-map-fits-requires-2
-map-fits-requires-2 c κs = search needs
-
 room-requires : tie.Need-room-requires
 room-requires c κs = (sym (c .before .before .before .map-fits .ensures) ∙ c .before .before .if1 .taken, sym (c .before .map-fits2 .ensures) ∙ c .if2 .taken)
-
-returns : tie.Need-returns
-returns c = search needs
 
 returns-2 : tie.Need-returns-2
 returns-2 c = right-unfit _ _ (c .before .before .before .map-fits .ensures) (c .before .before .if1 .taken) (c .before .map-fits2 .ensures) (c .if2 .left)
@@ -26,4 +17,5 @@ returns-3 c = left-unfit _ _ (c .before .map-fits .ensures) (c .if1 .left)
 pub plan-spec : {M : Type 1} → statement M
 plan-spec =
     tie.close
-    (tie.spec map-fits-requires map-fits-requires-2 room-requires returns returns-2 returns-3)
+    (tie.spec
+    (λ c κs. search needs) (λ c κs. search needs) room-requires (λ c. search needs) returns-2 returns-3)

@@ -6,26 +6,8 @@ use borrow.Author.Needs.{needs}
 use Rattle.int_union.proofs.room.Statement.{statement}
 use Rattle.int_union.proofs.room.Tie as tie
 
-scan-requires : tie.Need-scan-requires
-scan-requires c κs = search needs
-
-enum-known-seen : tie.Need-enum-known-seen
-enum-known-seen c = search needs
-
-enum-told : tie.Need-enum-told
-enum-told c = search needs
-
 returns : tie.Need-returns
 returns c = left-bad _ _ (c .before .before .before .before .before .before .before .before .before .pre .0) (c .before .before .before .before .before .before .before .before .before .pre .1) (c .before .before .scan .ensures) (c .enum-told .given .1)
-
-scan-requires-2 : tie.Need-scan-requires-2
-scan-requires-2 c κs = search needs
-
-enum-told-2 : tie.Need-enum-told-2
-enum-told-2 c = search needs
-
-enum-told-3 : tie.Need-enum-told-3
-enum-told-3 c = search needs
 
 returns-2 : tie.Need-returns-2
 returns-2 c = right-bad _ _ (c .before .before .before .before .before .before .before .before .before .before .before .before .before .pre .0) (c .before .before .before .before .before .before .before .before .before .before .before .before .before .pre .1) (c .before .before .before .before .before .before .scan .ensures) (c .before .before .before .before .seen .given .1) (c .before .before .scan2 .ensures) (c .enum-told3 .given .1)
@@ -46,15 +28,5 @@ pub room-spec : {M : Type 1} → statement M
 room-spec =
     tie.close
     (tie.spec
-    scan-requires
-    enum-known-seen
-    enum-told
-    returns
-    scan-requires-2
-    enum-told-2
-    enum-told-3
-    returns-2
-    lacks-requires
-    sub-if1
-    returns-3
-    returns-4)
+    (λ c κs. search needs) (λ c. search needs) (λ c. search needs) returns (λ c κs. search needs) (λ c. search needs) (λ c. search needs)
+    returns-2 lacks-requires sub-if1 returns-3 returns-4)

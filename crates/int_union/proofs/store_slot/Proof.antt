@@ -4,18 +4,6 @@ use borrow.Author.Needs.{needs}
 use Rattle.int_union.proofs.store_slot.Statement.{statement}
 use Rattle.int_union.proofs.store_slot.Tie as tie
 
-store-requires : tie.Need-store-requires
-store-requires c κs = search needs
-
-same-length : tie.Need-same-length
-same-length c = search needs
-
-same-length-2 : tie.Need-same-length-2
-same-length-2 c = search needs
-
-same-length-3 : tie.Need-same-length-3
-same-length-3 c = search needs
-
 returns : tie.Need-returns
 returns c = slot-live _ _ _ _ (c .before .before .before .before .before .before .before .before .before .before .if1 .taken) (c .before .before .before .before .before .before .store .ensures)
 
@@ -24,4 +12,5 @@ returns-2 c = slot-idle _ _ _ _ (c .if1 .left)
 
 pub store-slot-spec : {M : Type 1} → statement M
 store-slot-spec =
-    tie.close (tie.spec store-requires same-length same-length-2 same-length-3 returns returns-2)
+    tie.close (tie.spec
+    (λ c κs. search needs) (λ c. search needs) (λ c. search needs) (λ c. search needs) returns returns-2)

@@ -4,32 +4,17 @@ use borrow.Author.Needs.{needs}
 use Rattle.int_vacant.proofs.fresh_at.Statement.{statement}
 use Rattle.int_vacant.proofs.fresh_at.Tie as tie
 
-seek-requires : tie.Need-seek-requires
-seek-requires c κs = search needs
-
-enum-known-seen : tie.Need-enum-known-seen
-enum-known-seen c = search needs
-
 returns : tie.Need-returns
 returns c = fresh-free _ _ _ _ (c .before .before .before .before .seek .ensures) _ (c .before .before .seen .given .1) (c .if1 .taken)
 
 returns-2 : tie.Need-returns-2
 returns-2 c = fresh-other _ _ _ _ (c .before .before .before .before .seek .ensures) _ (c .before .before .seen .given .1) (c .if1 .left)
 
-enum-told : tie.Need-enum-told
-enum-told c = search needs
-
 returns-3 : tie.Need-returns-3
 returns-3 c = fresh-hit _ _ _ _ (c .before .before .seek .ensures) _ (c .enum-told .given .1)
 
-enum-told-2 : tie.Need-enum-told-2
-enum-told-2 c = search needs
-
 returns-4 : tie.Need-returns-4
 returns-4 c = fresh-full _ _ _ _ (c .before .before .seek .ensures) _ (c .enum-told2 .given .1)
-
-enum-known-seen-2 : tie.Need-enum-known-seen-2
-enum-known-seen-2 c = search needs
 
 returns-5 : tie.Need-returns-5
 returns-5 c = fresh-refused _ _ _ _ (c .before .before .before .seek .ensures) _ (c .before .seen2 .given .1)
@@ -38,13 +23,5 @@ pub fresh-at-spec : {M : Type 1} → statement M
 fresh-at-spec =
     tie.close
     (tie.spec
-    seek-requires
-    enum-known-seen
-    returns
-    returns-2
-    enum-told
-    returns-3
-    enum-told-2
-    returns-4
-    enum-known-seen-2
-    returns-5)
+    (λ c κs. search needs) (λ c. search needs) returns returns-2 (λ c. search needs) returns-3 (λ c. search needs) returns-4
+    (λ c. search needs) returns-5)

@@ -4,9 +4,6 @@ use Rattle.ints.specs.Memory.{fitting}
 use Rattle.ints.proofs.fits.Statement.{statement}
 use Rattle.ints.proofs.fits.Tie as tie
 
-slots-fit-requires : tie.Need-slots-fit-requires
-slots-fit-requires c κs = search needs
-
 returns : tie.Need-returns
 unfolding fitting
 returns c = rw (← c .before .slots-fit .ensures, c .if1 .taken)
@@ -16,4 +13,5 @@ unfolding fitting
 returns-2 c = rw (← c .before .slots-fit .ensures, c .if1 .left)
 
 pub fits-spec : {M : Type 1} → statement M
-fits-spec = tie.close (tie.spec slots-fit-requires returns returns-2)
+fits-spec = tie.close (tie.spec
+    (λ c κs. search needs) returns returns-2)

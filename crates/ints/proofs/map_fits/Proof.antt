@@ -4,9 +4,6 @@ use Rattle.ints.proofs.Seeking.{map-fits-all, map-fits-keys, map-fits-v
 use Rattle.ints.proofs.map_fits.Statement.{statement}
 use Rattle.ints.proofs.map_fits.Tie as tie
 
-slots-fit-requires : tie.Need-slots-fit-requires
-slots-fit-requires c κs = search needs
-
 returns : tie.Need-returns
 returns c = map-fits-all _ _ _ (c .before .before .if1 .taken) (c .before .if2 .taken) (c .slots-fit .ensures)
 
@@ -17,4 +14,5 @@ returns-3 : tie.Need-returns-3
 returns-3 c = map-fits-values _ _ _ (c .if1 .left)
 
 pub map-fits-spec : {M : Type 1} → statement M
-map-fits-spec = tie.close (tie.spec slots-fit-requires returns returns-2 returns-3)
+map-fits-spec = tie.close (tie.spec
+    (λ c κs. search needs) returns returns-2 returns-3)

@@ -20,20 +20,11 @@ loop-holds : tie.Need-loop-holds Inv-loop μ-loop
 unfolding nexting
 loop-holds c = ahead-start _ _ _ _ (λ j l. List·getD-eq-default (now (c .args .marks)) 0 l)
 
-shared-slice-read-here : tie.Need-shared-slice-read-here Inv-loop μ-loop
-shared-slice-read-here c = search needs
-
 returns : tie.Need-returns Inv-loop μ-loop
 returns c = ahead-live (c .before .before .before .loop .inv) (c .before .before .loop-test .taken) refl (c .if1 .taken)
 
 returns-2 : tie.Need-returns-2 Inv-loop μ-loop
 returns-2 c = ahead-bad (c .before .before .before .before .loop .inv) (c .before .before .before .loop-test .taken) refl (c .if2 .taken)
-
-add-i : tie.Need-add-i Inv-loop μ-loop
-add-i c = search needs
-
-loop-less : tie.Need-loop-less Inv-loop μ-loop
-loop-less c = search needs
 
 loop-again : tie.Need-loop-again Inv-loop μ-loop
 loop-again c = ahead-on (c .before .before .before .before .loop .inv) (c .before .before .before .loop-test .taken) refl (c .if2 .left) (c .before .if1 .left)
@@ -45,13 +36,4 @@ pub next-live-spec : {M : Type 1} → statement M
 next-live-spec =
     tie.close
     (tie.spec
-    Inv-loop
-    μ-loop
-    loop-holds
-    shared-slice-read-here
-    returns
-    returns-2
-    add-i
-    loop-less
-    loop-again
-    returns-3)
+    Inv-loop μ-loop loop-holds (λ c. search needs) returns returns-2 (λ c. search needs) (λ c. search needs) loop-again returns-3)

@@ -4,12 +4,6 @@ use Rattle.ints.proofs.Sizes.{home-fits, probing-fit, probing-misfit}
 use Rattle.ints.proofs.probe.Statement.{statement}
 use Rattle.ints.proofs.probe.Tie as tie
 
-fits-requires : tie.Need-fits-requires
-fits-requires c κs = search needs
-
-slot-of-word-requires : tie.Need-slot-of-word-requires
-slot-of-word-requires c κs = search needs
-
 walk-path-requires : tie.Need-walk-path-requires
 walk-path-requires c κs = home-fits _ _ _ (c .before .before .fits2 .ensures) (c .before .if1 .taken) (c .slot-of-word .ensures)
 
@@ -21,4 +15,5 @@ returns-2 c = probing-misfit _ _ _ (c .before .fits2 .ensures) (c .if1 .left)
 
 pub probe-spec : {M : Type 1} → statement M
 probe-spec =
-    tie.close (tie.spec fits-requires slot-of-word-requires walk-path-requires returns returns-2)
+    tie.close (tie.spec
+    (λ c κs. search needs) (λ c κs. search needs) walk-path-requires returns returns-2)

@@ -5,12 +5,6 @@ use Rattle.kinds.specs.Probing.{nextSlot}
 use Rattle.kinds.proofs.next_slot.Statement.{statement}
 use Rattle.kinds.proofs.next_slot.Tie as tie
 
-add-if1 : tie.Need-add-if1
-add-if1 c = search needs
-
-add-result : tie.Need-add-result
-add-result c = search needs
-
 returns : tie.Need-returns
 unfolding nextSlot
 returns c = rw (lt-ltb _ _ (c .if1 .taken))
@@ -20,4 +14,5 @@ unfolding nextSlot
 returns-2 c = rw (le-ltb _ _ (c .if1 .left))
 
 pub next-slot-spec : {M : Type 1} → statement M
-next-slot-spec = tie.close (tie.spec add-if1 add-result returns returns-2)
+next-slot-spec = tie.close (tie.spec
+    (λ c. search needs) (λ c. search needs) returns returns-2)

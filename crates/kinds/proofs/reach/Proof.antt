@@ -5,19 +5,14 @@ use Rattle.model.specs.Walk.{reachOf}
 use Rattle.kinds.proofs.reach.Statement.{statement}
 use Rattle.kinds.proofs.reach.Tie as tie
 
-sub-if1 : tie.Need-sub-if1
-sub-if1 c = search needs
-
 returns : tie.Need-returns
 unfolding reachOf
 returns c = rw (le-leb _ _ (c .if1 .taken))
-
-sub-result : tie.Need-sub-result
-sub-result c = search needs
 
 returns-2 : tie.Need-returns-2
 unfolding reachOf
 returns-2 c = rw (lt-leb _ _ (c .if1 .left))
 
 pub reach-spec : {M : Type 1} → statement M
-reach-spec = tie.close (tie.spec sub-if1 returns sub-result returns-2)
+reach-spec = tie.close (tie.spec
+    (λ c. search needs) returns (λ c. search needs) returns-2)

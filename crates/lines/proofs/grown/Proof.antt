@@ -16,18 +16,6 @@ returns-2 c =
     let b = c .before .before .args .byte in
     rw (le-leb 48 b (omega arith), lt-leb b 57 (omega arith))
 
-cast-digit : tie.Need-cast-digit
-cast-digit c = search needs
-
-sub-if3 : tie.Need-sub-if3
-sub-if3 c = search needs
-
-mul-t9 : tie.Need-mul-t9
-mul-t9 c = search needs
-
-add-t10 : tie.Need-add-t10
-add-t10 c = search needs
-
 returns-3 : tie.Need-returns-3
 unfolding limit
 returns-3 c =
@@ -42,4 +30,5 @@ returns-4 c =
 
 pub grown-spec : {M : Type 1} → statement M
 grown-spec =
-    tie.close (tie.spec returns returns-2 cast-digit sub-if3 mul-t9 add-t10 returns-3 returns-4)
+    tie.close (tie.spec
+    returns returns-2 (λ c. search needs) (λ c. search needs) (λ c. search needs) (λ c. search needs) returns-3 returns-4)

@@ -5,31 +5,17 @@ use borrow.Author.Needs.{needs}
 use Rattle.lines.proofs.keyed.Statement.{statement}
 use Rattle.lines.proofs.keyed.Tie as tie
 
-enum-known-key : tie.Need-enum-known-key
-enum-known-key c = search needs
-
 returns : tie.Need-returns
 returns c = rw (c .before .before .key .given .1, eq-eqb _ _ (c .if1 .taken))
 
 returns-2 : tie.Need-returns-2
 returns-2 c = rw (c .before .before .before .key .given .1, ne-eqb _ _ (c .before .if1 .left), eq-eqb _ _ (c .if2 .taken))
 
-enum-told : tie.Need-enum-told
-enum-told c = search needs
-
-enum-told-2 : tie.Need-enum-told-2
-enum-told-2 c = search needs
-
 returns-3 : tie.Need-returns-3
 returns-3 c = rw (c .before .before .before .key .given .1, ne-eqb _ _ (c .before .if1 .left), ne-eqb _ _ (c .if2 .left))
-
-returns-4 : tie.Need-returns-4
-returns-4 c = search needs
-
-returns-5 : tie.Need-returns-5
-returns-5 c = search needs
 
 pub keyed-spec : {M : Type 1} → statement M
 keyed-spec =
     tie.close
-    (tie.spec enum-known-key returns returns-2 enum-told enum-told-2 returns-3 returns-4 returns-5)
+    (tie.spec
+    (λ c. search needs) returns returns-2 (λ c. search needs) (λ c. search needs) returns-3 (λ c. search needs) (λ c. search needs))

@@ -3,14 +3,9 @@ use borrow.Author.Needs.{needs}
 use Rattle.mosspillow.proofs.moss_home.Statement.{statement}
 use Rattle.mosspillow.proofs.moss_home.Tie as tie
 
-home-requires : tie.Need-home-requires
-home-requires c κs = search needs
-
-home-word-requires : tie.Need-home-word-requires
-home-word-requires c κs = search needs
-
 returns : tie.Need-returns
 returns c = rw (← c .before .home .ensures) (c .home-word .ensures)
 
 pub moss-home-spec : {M : Type 1} → statement M
-moss-home-spec = tie.close (tie.spec home-requires home-word-requires returns)
+moss-home-spec = tie.close (tie.spec
+    (λ c κs. search needs) (λ c κs. search needs) returns)

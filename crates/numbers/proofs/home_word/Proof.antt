@@ -25,15 +25,6 @@ refusal-returned a r n p e =
     let z : numberOf r ≡ 0 → ⊥ = λ z. omega (arith, numberOf-range r .0) in
     rw (p, ne-eqb (numberOf r) 0 z, e)
 
-enum-known-answer : tie.Need-enum-known-answer
-enum-known-answer c = search needs
-
-enum-known-answer-2 : tie.Need-enum-known-answer-2
-enum-known-answer-2 c = search needs
-
-number-requires : tie.Need-number-requires
-number-requires c κs = search needs
-
 add-result : tie.Need-add-result
 add-result c = omega (arith, numberOf-range (c .before .before .answer2 .given .0 .0) .1)
 
@@ -45,4 +36,5 @@ returns-2 c = refusal-returned _ _ _ (c .before .before .answer2 .given .1) (c .
 
 pub home-word-spec : {M : Type 1} → statement M
 home-word-spec =
-    tie.close (tie.spec enum-known-answer enum-known-answer-2 number-requires add-result returns returns-2)
+    tie.close (tie.spec
+    (λ c. search needs) (λ c. search needs) (λ c κs. search needs) add-result returns returns-2)

@@ -7,9 +7,6 @@ use borrow.Author.Needs.{needs}
 use Rattle.slots.proofs.say_number.Statement.{statement}
 use Rattle.slots.proofs.say_number.Tie as tie
 
-of-requires : tie.Need-of-requires
-of-requires c κs = search needs
-
 sub-say : tie.Need-sub-say
 sub-say c = omega (arith, ap (λ (d : Decimal). d .from) (c .before .of .ensures))
 
@@ -19,12 +16,7 @@ part-say-start c = omega (arith, ap (λ (d : Decimal). d .from) (c .before .befo
 part-say-end : tie.Need-part-say-end
 part-say-end c = let l : length (c .before .before .of .result .digits) ≡ 20 = search needs in omega arith
 
-say-requires : tie.Need-say-requires
-say-requires c κs = search needs
-
-returns : tie.Need-returns
-returns c = search needs
-
 pub say-number-spec : {M : Type 1} → statement M
 say-number-spec =
-    tie.close (tie.spec of-requires sub-say part-say-start part-say-end say-requires returns)
+    tie.close (tie.spec
+    (λ c κs. search needs) sub-say part-say-start part-say-end (λ c κs. search needs) (λ c. search needs))

@@ -4,9 +4,6 @@ use Rattle.spans.proofs.Sizes.{fits-not, fits-offsets, fits-lengths, fi
 use Rattle.spans.proofs.fits.Statement.{statement}
 use Rattle.spans.proofs.fits.Tie as tie
 
-slots-fit-requires : tie.Need-slots-fit-requires
-slots-fit-requires c κs = search needs
-
 returns : tie.Need-returns
 returns c = fits-arena _ (c .before .before .before .slots-fit .ensures) (c .before .before .if1 .taken) (c .before .if2 .taken) (c .if3 .taken)
 
@@ -20,4 +17,5 @@ returns-4 : tie.Need-returns-4
 returns-4 c = fits-not _ (c .before .slots-fit .ensures) (c .if1 .left)
 
 pub fits-spec : {M : Type 1} → statement M
-fits-spec = tie.close (tie.spec slots-fit-requires returns returns-2 returns-3 returns-4)
+fits-spec = tie.close (tie.spec
+    (λ c κs. search needs) returns returns-2 returns-3 returns-4)

@@ -5,9 +5,6 @@ use borrow.Author.Needs.{needs}
 use Rattle.spans.proofs.len_at.Statement.{statement}
 use Rattle.spans.proofs.len_at.Tie as tie
 
-shared-slice-read-result : tie.Need-shared-slice-read-result
-shared-slice-read-result c = search needs
-
 cast-result : tie.Need-cast-result
 cast-result c = omega (arith, c .shared-slice-known .given (c .before .args .i))
 
@@ -15,4 +12,5 @@ returns : tie.Need-returns
 returns c = (refl, omega (arith, c .shared-slice-known .given (c .before .args .i)))
 
 pub len-at-spec : {M : Type 1} → statement M
-len-at-spec = tie.close (tie.spec shared-slice-read-result cast-result returns)
+len-at-spec = tie.close (tie.spec
+    (λ c. search needs) cast-result returns)

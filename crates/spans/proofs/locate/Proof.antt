@@ -6,32 +6,14 @@ use Rattle.spans.proofs.Plans.{locating-unfit, locating-long, locating-
 use Rattle.spans.proofs.locate.Statement.{statement}
 use Rattle.spans.proofs.locate.Tie as tie
 
-fits-requires : tie.Need-fits-requires
-fits-requires c κs = search needs
-
-may-ask-requires : tie.Need-may-ask-requires
-may-ask-requires c κs = search needs
-
 survey-requires : tie.Need-survey-requires
 survey-requires c κs = sym (c .before .before .before .fits2 .ensures) ∙ c .before .before .if1 .taken
-
-enum-known-found : tie.Need-enum-known-found
-enum-known-found c = search needs
-
-slot-of-key-requires : tie.Need-slot-of-key-requires
-slot-of-key-requires c κs = search needs
 
 walk-path-requires : tie.Need-walk-path-requires
 walk-path-requires c κs = home-fits _ _ (c .before .before .before .before .before .before .before .before .fits2 .ensures) (c .before .before .before .before .before .before .before .if1 .taken) (c .slot-of-key .ensures)
 
-located-by-requires : tie.Need-located-by-requires
-located-by-requires c κs = search needs
-
 returns : tie.Need-returns
 returns c = locating-path _ _ (c .before .before .before .before .before .before .before .before .before .before .fits2 .ensures) (c .before .before .before .before .before .before .before .before .before .if1 .taken) (c .before .before .before .before .before .before .before .before .may-ask .ensures) (c .before .before .before .before .before .before .before .if2 .taken) (c .before .before .before .before .before .before .survey .ensures) (c .before .before .before .before .found .given .1) (c .before .before .slot-of-key .ensures) (c .before .walk-path .ensures) (c .located-by .ensures)
-
-enum-told : tie.Need-enum-told
-enum-told c = search needs
 
 returns-2 : tie.Need-returns-2
 returns-2 c = locating-bad _ _ (c .before .before .before .before .before .before .fits2 .ensures) (c .before .before .before .before .before .if1 .taken) (c .before .before .before .before .may-ask .ensures) (c .before .before .before .if2 .taken) (c .before .before .survey .ensures) (c .enum-told .given .1)
@@ -46,15 +28,5 @@ pub locate-spec : {M : Type 1} → statement M
 locate-spec =
     tie.close
     (tie.spec
-    fits-requires
-    may-ask-requires
-    survey-requires
-    enum-known-found
-    slot-of-key-requires
-    walk-path-requires
-    located-by-requires
-    returns
-    enum-told
-    returns-2
-    returns-3
-    returns-4)
+    (λ c κs. search needs) (λ c κs. search needs) survey-requires (λ c. search needs) (λ c κs. search needs) walk-path-requires
+    (λ c κs. search needs) returns (λ c. search needs) returns-2 returns-3 returns-4)

@@ -4,18 +4,6 @@ use Rattle.spans.specs.Planning.{locatedBy}
 use Rattle.spans.proofs.located_by.Statement.{statement}
 use Rattle.spans.proofs.located_by.Tie as tie
 
-enum-known-found : tie.Need-enum-known-found
-enum-known-found c = search needs
-
-enum-known-found-2 : tie.Need-enum-known-found-2
-enum-known-found-2 c = search needs
-
-enum-known-found-3 : tie.Need-enum-known-found-3
-enum-known-found-3 c = search needs
-
-enum-known-found-4 : tie.Need-enum-known-found-4
-enum-known-found-4 c = search needs
-
 returns : tie.Need-returns
 unfolding locatedBy
 returns c = rw (c .before .found .given .1)
@@ -36,11 +24,4 @@ pub located-by-spec : {M : Type 1} → statement M
 located-by-spec =
     tie.close
     (tie.spec
-    enum-known-found
-    enum-known-found-2
-    enum-known-found-3
-    enum-known-found-4
-    returns
-    returns-2
-    returns-3
-    returns-4)
+    (λ c. search needs) (λ c. search needs) (λ c. search needs) (λ c. search needs) returns returns-2 returns-3 returns-4)

@@ -6,20 +6,8 @@ use Rattle.spans.proofs.Sights.{sight-never, sight-freed, sight-bad, si
 use Rattle.spans.proofs.look.Statement.{statement}
 use Rattle.spans.proofs.look.Tie as tie
 
-shared-slice-read-mark : tie.Need-shared-slice-read-mark
-shared-slice-read-mark c = search needs
-
-mul-start : tie.Need-mul-start
-mul-start c = search needs
-
-shared-slice-read-start : tie.Need-shared-slice-read-start
-shared-slice-read-start c = search needs
-
 cast-start : tie.Need-cast-start
 cast-start c = omega (arith, c .shared-slice-known7 .given (c .before .before .before .before .before .before .before .before .args .slot))
-
-len-at-requires : tie.Need-len-at-requires
-len-at-requires c κs = search needs
 
 cast-end : tie.Need-cast-end
 cast-end c = omega (arith, c .len-at .ensures .1)
@@ -29,18 +17,6 @@ add-end c = omega (arith, c .len-at .ensures .1, c .before .shared-slice-known7 
 
 returns : tie.Need-returns
 returns c = sight-past _ _ _ refl (c .before .before .before .if1 .taken) (c .before .len-at .ensures .0) refl (c .if2 .taken)
-
-sub-same-bytes : tie.Need-sub-same-bytes
-sub-same-bytes c = search needs
-
-part-same-bytes-start : tie.Need-part-same-bytes-start
-part-same-bytes-start c = search needs
-
-part-same-bytes-end : tie.Need-part-same-bytes-end
-part-same-bytes-end c = search needs
-
-same-bytes-requires : tie.Need-same-bytes-requires
-same-bytes-requires c κs = search needs
 
 returns-2 : tie.Need-returns-2
 returns-2 c = sight-same _ _ _ refl (c .before .before .before .before .before .before .if1 .taken) (c .before .before .before .before .len-at .ensures .0) refl (c .before .before .before .if2 .left) refl (c .before .same-bytes .ensures) (c .if3 .taken)
@@ -61,20 +37,5 @@ pub look-spec : {M : Type 1} → statement M
 look-spec =
     tie.close
     (tie.spec
-    shared-slice-read-mark
-    mul-start
-    shared-slice-read-start
-    cast-start
-    len-at-requires
-    cast-end
-    add-end
-    returns
-    sub-same-bytes
-    part-same-bytes-start
-    part-same-bytes-end
-    same-bytes-requires
-    returns-2
-    returns-3
-    returns-4
-    returns-5
-    returns-6)
+    (λ c. search needs) (λ c. search needs) (λ c. search needs) cast-start (λ c κs. search needs) cast-end add-end returns
+    (λ c. search needs) (λ c. search needs) (λ c. search needs) (λ c κs. search needs) returns-2 returns-3 returns-4 returns-5 returns-6)

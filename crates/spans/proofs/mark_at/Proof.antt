@@ -6,20 +6,8 @@ use Rattle.spans.proofs.Marks.{mark-past, mark-within, mark-other}
 use Rattle.spans.proofs.mark_at.Statement.{statement}
 use Rattle.spans.proofs.mark_at.Tie as tie
 
-shared-slice-read-mark : tie.Need-shared-slice-read-mark
-shared-slice-read-mark c = search needs
-
-mul-if2 : tie.Need-mul-if2
-mul-if2 c = search needs
-
-shared-slice-read-if2 : tie.Need-shared-slice-read-if2
-shared-slice-read-if2 c = search needs
-
 cast-if2 : tie.Need-cast-if2
 cast-if2 c = omega (arith, c .shared-slice-known6 .given (c .before .before .before .before .before .before .before .args .i))
-
-len-at-requires : tie.Need-len-at-requires
-len-at-requires c κs = search needs
 
 cast-if2-2 : tie.Need-cast-if2-2
 cast-if2-2 c = omega (arith, c .len-at .ensures .1)
@@ -40,13 +28,5 @@ pub mark-at-spec : {M : Type 1} → statement M
 mark-at-spec =
     tie.close
     (tie.spec
-    shared-slice-read-mark
-    mul-if2
-    shared-slice-read-if2
-    cast-if2
-    len-at-requires
-    cast-if2-2
-    add-if2
-    returns
-    returns-2
+    (λ c. search needs) (λ c. search needs) (λ c. search needs) cast-if2 (λ c κs. search needs) cast-if2-2 add-if2 returns returns-2
     returns-3)

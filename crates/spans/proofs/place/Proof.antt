@@ -6,20 +6,8 @@ use Rattle.spans.proofs.Plans.{surveyed-within, placing-unfit, placing-
 use Rattle.spans.proofs.place.Statement.{statement}
 use Rattle.spans.proofs.place.Tie as tie
 
-fits-requires : tie.Need-fits-requires
-fits-requires c κs = search needs
-
-may-keep-requires : tie.Need-may-keep-requires
-may-keep-requires c κs = search needs
-
 survey-requires : tie.Need-survey-requires
 survey-requires c κs = sym (c .before .before .before .fits2 .ensures) ∙ c .before .before .if1 .taken
-
-enum-known-found : tie.Need-enum-known-found
-enum-known-found c = search needs
-
-slot-of-key-requires : tie.Need-slot-of-key-requires
-slot-of-key-requires c κs = search needs
 
 walk-path-requires : tie.Need-walk-path-requires
 walk-path-requires c κs = home-fits _ _ (c .before .before .before .before .before .before .before .before .fits2 .ensures) (c .before .before .before .before .before .before .before .if1 .taken) (c .slot-of-key .ensures)
@@ -29,9 +17,6 @@ placed-by-requires c κs = surveyed-within _ (c .before .before .before .before 
 
 returns : tie.Need-returns
 returns c = placing-path _ _ (c .before .before .before .before .before .before .before .before .before .before .fits2 .ensures) (c .before .before .before .before .before .before .before .before .before .if1 .taken) (c .before .before .before .before .before .before .before .before .may-keep .ensures) (c .before .before .before .before .before .before .before .if2 .taken) (c .before .before .before .before .before .before .survey .ensures) (c .before .before .before .before .found .given .1) (c .before .before .slot-of-key .ensures) (c .before .walk-path .ensures) (c .placed-by .ensures)
-
-enum-told : tie.Need-enum-told
-enum-told c = search needs
 
 returns-2 : tie.Need-returns-2
 returns-2 c = placing-bad _ _ (c .before .before .before .before .before .before .fits2 .ensures) (c .before .before .before .before .before .if1 .taken) (c .before .before .before .before .may-keep .ensures) (c .before .before .before .if2 .taken) (c .before .before .survey .ensures) (c .enum-told .given .1)
@@ -46,15 +31,5 @@ pub place-spec : {M : Type 1} → statement M
 place-spec =
     tie.close
     (tie.spec
-    fits-requires
-    may-keep-requires
-    survey-requires
-    enum-known-found
-    slot-of-key-requires
-    walk-path-requires
-    placed-by-requires
-    returns
-    enum-told
-    returns-2
-    returns-3
-    returns-4)
+    (λ c κs. search needs) (λ c κs. search needs) survey-requires (λ c. search needs) (λ c κs. search needs) walk-path-requires
+    placed-by-requires returns (λ c. search needs) returns-2 returns-3 returns-4)

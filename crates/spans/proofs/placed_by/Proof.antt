@@ -5,24 +5,9 @@ use Rattle.spans.specs.Planning.{placedBy}
 use Rattle.spans.proofs.placed_by.Statement.{statement}
 use Rattle.spans.proofs.placed_by.Tie as tie
 
-enum-known-found : tie.Need-enum-known-found
-enum-known-found c = search needs
-
-enum-known-found-2 : tie.Need-enum-known-found-2
-enum-known-found-2 c = search needs
-
-sub-if1 : tie.Need-sub-if1
-sub-if1 c = search needs
-
 returns : tie.Need-returns
 unfolding placedBy
 returns c = rw (c .before .before .found2 .given .1, le-leb _ _ (c .if1 .taken))
-
-enum-told : tie.Need-enum-told
-enum-told c = search needs
-
-enum-known-found-3 : tie.Need-enum-known-found-3
-enum-known-found-3 c = search needs
 
 returns-2 : tie.Need-returns-2
 unfolding placedBy
@@ -44,13 +29,5 @@ pub placed-by-spec : {M : Type 1} → statement M
 placed-by-spec =
     tie.close
     (tie.spec
-    enum-known-found
-    enum-known-found-2
-    sub-if1
-    returns
-    enum-told
-    enum-known-found-3
-    returns-2
-    returns-3
-    returns-4
-    returns-5)
+    (λ c. search needs) (λ c. search needs) (λ c. search needs) returns (λ c. search needs) (λ c. search needs) returns-2 returns-3
+    returns-4 returns-5)

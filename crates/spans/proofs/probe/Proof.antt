@@ -4,15 +4,6 @@ use Rattle.spans.proofs.Sizes.{home-fits, probing-unfit, probing-long, 
 use Rattle.spans.proofs.probe.Statement.{statement}
 use Rattle.spans.proofs.probe.Tie as tie
 
-fits-requires : tie.Need-fits-requires
-fits-requires c κs = search needs
-
-may-ask-requires : tie.Need-may-ask-requires
-may-ask-requires c κs = search needs
-
-slot-of-key-requires : tie.Need-slot-of-key-requires
-slot-of-key-requires c κs = search needs
-
 walk-path-requires : tie.Need-walk-path-requires
 walk-path-requires c κs = home-fits _ _ (c .before .before .before .before .fits2 .ensures) (c .before .before .before .if1 .taken) (c .slot-of-key .ensures)
 
@@ -29,10 +20,4 @@ pub probe-spec : {M : Type 1} → statement M
 probe-spec =
     tie.close
     (tie.spec
-    fits-requires
-    may-ask-requires
-    slot-of-key-requires
-    walk-path-requires
-    returns
-    returns-2
-    returns-3)
+    (λ c κs. search needs) (λ c κs. search needs) (λ c κs. search needs) walk-path-requires returns returns-2 returns-3)

@@ -19,23 +19,11 @@ abbrev μ-loop : tie.MeasureT-loop
 loop-holds : tie.Need-loop-holds Inv-loop μ-loop
 loop-holds c = survey-start _ (c .before .before .before .before .pre)
 
-shared-slice-read-state : tie.Need-shared-slice-read-state Inv-loop μ-loop
-shared-slice-read-state c = search needs
-
-len-at-requires : tie.Need-len-at-requires Inv-loop μ-loop
-len-at-requires c κs = search needs
-
 cast-len : tie.Need-cast-len Inv-loop μ-loop
 cast-len c = omega (arith, c .len-at .ensures .1)
 
 add-used : tie.Need-add-used Inv-loop μ-loop
 add-used c = omega (arith, c .len-at .ensures .1)
-
-mul-higher-end : tie.Need-mul-higher-end Inv-loop μ-loop
-mul-higher-end c = search needs
-
-shared-slice-read-higher-end : tie.Need-shared-slice-read-higher-end Inv-loop μ-loop
-shared-slice-read-higher-end c = search needs
 
 cast-higher-end : tie.Need-cast-higher-end Inv-loop μ-loop
 cast-higher-end c = omega (arith, c .shared-slice-known6 .given (c .before .before .before .before .before .loop .i))
@@ -43,17 +31,8 @@ cast-higher-end c = omega (arith, c .shared-slice-known6 .given (c .before .befo
 add-higher-end : tie.Need-add-higher-end Inv-loop μ-loop
 add-higher-end c = omega (arith, c .shared-slice-known6 .given (c .before .before .before .before .before .loop .i), c .before .len-at .ensures .1)
 
-higher-end-requires : tie.Need-higher-end-requires Inv-loop μ-loop
-higher-end-requires c κs = search needs
-
 returns : tie.Need-returns Inv-loop μ-loop
 returns c = survey-bad (c .before .before .before .before .loop .inv) (c .before .before .before .loop-test .taken) refl (c .if2 .taken) (c .before .if1 .left)
-
-add-i : tie.Need-add-i Inv-loop μ-loop
-add-i c = search needs
-
-loop-less : tie.Need-loop-less Inv-loop μ-loop
-loop-less c = search needs
 
 loop-again : tie.Need-loop-again Inv-loop μ-loop
 loop-again c =
@@ -75,22 +54,6 @@ pub survey-spec : {M : Type 1} → statement M
 survey-spec =
     tie.close
     (tie.spec
-    Inv-loop
-    μ-loop
-    loop-holds
-    shared-slice-read-state
-    len-at-requires
-    cast-len
-    add-used
-    mul-higher-end
-    shared-slice-read-higher-end
-    cast-higher-end
-    add-higher-end
-    higher-end-requires
-    returns
-    add-i
-    loop-less
-    loop-again
-    returns-2
-    returns-3
+    Inv-loop μ-loop loop-holds (λ c. search needs) (λ c κs. search needs) cast-len add-used (λ c. search needs) (λ c. search needs)
+    cast-higher-end add-higher-end (λ c κs. search needs) returns (λ c. search needs) (λ c. search needs) loop-again returns-2 returns-3
     returns-4)

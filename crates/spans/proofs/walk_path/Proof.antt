@@ -22,51 +22,6 @@ loop-holds : tie.Need-loop-holds Inv-loop μ-loop
 unfolding pathFrom
 loop-holds c = at-home byteKeys _ _ _ _ _ (c .before .before .before .before .before .pre .0)
 
-ended-at-requires : tie.Need-ended-at-requires Inv-loop μ-loop
-ended-at-requires c κs = search needs
-
-look-requires : tie.Need-look-requires Inv-loop μ-loop
-look-requires c κs = search needs
-
-enum-told : tie.Need-enum-told Inv-loop μ-loop
-enum-told c = search needs
-
-first-free-requires : tie.Need-first-free-requires Inv-loop μ-loop
-first-free-requires c κs = search needs
-
-add-ended-at : tie.Need-add-ended-at Inv-loop μ-loop
-add-ended-at c = search needs
-
-ended-at-requires-2 : tie.Need-ended-at-requires-2 Inv-loop μ-loop
-ended-at-requires-2 c κs = search needs
-
-enum-told-2 : tie.Need-enum-told-2 Inv-loop μ-loop
-enum-told-2 c = search needs
-
-first-free-requires-2 : tie.Need-first-free-requires-2 Inv-loop μ-loop
-first-free-requires-2 c κs = search needs
-
-enum-told-3 : tie.Need-enum-told-3 Inv-loop μ-loop
-enum-told-3 c = search needs
-
-enum-told-4 : tie.Need-enum-told-4 Inv-loop μ-loop
-enum-told-4 c = search needs
-
-add-t17 : tie.Need-add-t17 Inv-loop μ-loop
-add-t17 c = search needs
-
-enum-told-5 : tie.Need-enum-told-5 Inv-loop μ-loop
-enum-told-5 c = search needs
-
-next-slot-requires : tie.Need-next-slot-requires Inv-loop μ-loop
-next-slot-requires c κs = search needs
-
-add-n : tie.Need-add-n Inv-loop μ-loop
-add-n c = search needs
-
-loop-less : tie.Need-loop-less Inv-loop μ-loop
-loop-less c = search needs
-
 loop-again : tie.Need-loop-again Inv-loop μ-loop
 unfolding sightAt
 loop-again c =
@@ -94,26 +49,6 @@ pub walk-path-spec : {M : Type 1} → statement M
 walk-path-spec =
     tie.close
     (tie.spec
-    Inv-loop
-    μ-loop
-    loop-holds
-    ended-at-requires
-    look-requires
-    enum-told
-    first-free-requires
-    add-ended-at
-    ended-at-requires-2
-    enum-told-2
-    first-free-requires-2
-    enum-told-3
-    enum-told-4
-    add-t17
-    enum-told-5
-    next-slot-requires
-    add-n
-    loop-less
-    loop-again
-    returns
-    returns-2
-    returns-3
-    returns-4)
+    Inv-loop μ-loop loop-holds (λ c κs. search needs) (λ c κs. search needs) (λ c. search needs) (λ c κs. search needs) (λ c. search needs)
+    (λ c κs. search needs) (λ c. search needs) (λ c κs. search needs) (λ c. search needs) (λ c. search needs) (λ c. search needs)
+    (λ c. search needs) (λ c κs. search needs) (λ c. search needs) (λ c. search needs) loop-again returns returns-2 returns-3 returns-4)

@@ -4,11 +4,9 @@ use borrow.Author.Needs.{needs}
 use Rattle.byte_handles.proofs.Occupied.get.Statement.{statement}
 use Rattle.byte_handles.proofs.Occupied.get.Tie as tie
 
-hold-requires : tie.Need-hold-requires
-hold-requires c κs = search needs
-
 returns : tie.Need-returns
 returns c = get-held _ _ _ (c .hold .ensures)
 
 pub get-spec : {M : Type 1} → statement M
-get-spec = tie.close (tie.spec hold-requires returns)
+get-spec = tie.close (tie.spec
+    (λ c κs. search needs) returns)

@@ -6,17 +6,8 @@ use Rattle.byte_set_walk.proofs.Steps.{step-unfit, step-unpaid, step-be
 use Rattle.byte_set_walk.proofs.Walk.step.Statement.{statement}
 use Rattle.byte_set_walk.proofs.Walk.step.Tie as tie
 
-fits-requires : tie.Need-fits-requires
-fits-requires c κs = search needs
-
-refused-requires : tie.Need-refused-requires
-refused-requires c κs = search needs
-
 returns : tie.Need-returns
 returns c = step-unpaid _ _ _ (c .before .before .before .fits2 .ensures) (c .before .before .if1 .taken) (c .before .if2 .taken) _ (c .refused .ensures)
-
-refused-requires-2 : tie.Need-refused-requires-2
-refused-requires-2 c κs = search needs
 
 returns-2 : tie.Need-returns-2
 returns-2 c = step-beyond _ _ _ (c .before .before .before .before .fits2 .ensures) (c .before .before .before .if1 .taken) (c .before .before .if2 .left) (c .before .if3 .taken) _ (c .refused2 .ensures)
@@ -24,17 +15,11 @@ returns-2 c = step-beyond _ _ _ (c .before .before .before .before .fits2 .ensur
 returns-3 : tie.Need-returns-3
 returns-3 c = step-done _ _ _ (c .before .before .before .before .fits2 .ensures) (c .before .before .before .if1 .taken) (c .before .before .if2 .left) (c .if4 .taken)
 
-reach-requires : tie.Need-reach-requires
-reach-requires c κs = search needs
-
 pace-requires : tie.Need-pace-requires
 pace-requires c κs = let z = fitting-says _ (sym (c .before .before .before .before .before .fits2 .ensures) ∙ c .before .before .before .before .if1 .taken) in (pace-fits _ _ _ (c .before .before .if3 .left) (c .reach .ensures), z .offsets, z .lengths)
 
 returns-4 : tie.Need-returns-4
 returns-4 c = step-pace _ _ _ (c .before .before .before .before .before .before .fits2 .ensures) (c .before .before .before .before .before .if1 .taken) (c .before .before .before .before .if2 .left) (c .before .before .before .if3 .left) (c .before .before .if4 .left) (c .before .reach .ensures) _ (c .pace .ensures)
-
-refused-requires-3 : tie.Need-refused-requires-3
-refused-requires-3 c κs = search needs
 
 returns-5 : tie.Need-returns-5
 returns-5 c = step-unfit _ _ _ (c .before .before .fits2 .ensures) (c .before .if1 .left) _ (c .refused3 .ensures)
@@ -43,14 +28,5 @@ pub step-spec : {M : Type 1} → statement M
 step-spec =
     tie.close
     (tie.spec
-    fits-requires
-    refused-requires
-    returns
-    refused-requires-2
-    returns-2
-    returns-3
-    reach-requires
-    pace-requires
-    returns-4
-    refused-requires-3
-    returns-5)
+    (λ c κs. search needs) (λ c κs. search needs) returns (λ c κs. search needs) returns-2 returns-3 (λ c κs. search needs) pace-requires
+    returns-4 (λ c κs. search needs) returns-5)

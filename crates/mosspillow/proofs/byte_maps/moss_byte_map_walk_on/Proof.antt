@@ -5,11 +5,9 @@ use Rattle.lent.proofs.Moved.{moved}
 use Rattle.mosspillow.proofs.byte_maps.moss_byte_map_walk_on.Statement.{statement}
 use Rattle.mosspillow.proofs.byte_maps.moss_byte_map_walk_on.Tie as tie
 
-moss-byte-map-step-requires : tie.Need-moss-byte-map-step-requires
-moss-byte-map-step-requires c κs = search needs
-
 returns : tie.Need-returns
 returns c = moved (c .moss-byte-map-step .ensures) refl
 
 pub moss-byte-map-walk-on-spec : {M : Type 1} → statement M
-moss-byte-map-walk-on-spec = tie.close (tie.spec moss-byte-map-step-requires returns)
+moss-byte-map-walk-on-spec = tie.close (tie.spec
+    (λ c κs. search needs) returns)

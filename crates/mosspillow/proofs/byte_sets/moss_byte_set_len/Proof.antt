@@ -4,14 +4,9 @@ use borrow.Author.Needs.{needs}
 use Rattle.mosspillow.proofs.byte_sets.moss_byte_set_len.Statement.{statement}
 use Rattle.mosspillow.proofs.byte_sets.moss_byte_set_len.Tie as tie
 
-len-requires : tie.Need-len-requires
-len-requires c κs = search needs
-
-counted-numbers-requires : tie.Need-counted-numbers-requires
-counted-numbers-requires c κs = search needs
-
 returns : tie.Need-returns
 returns c = c .counted-numbers .ensures ∙ c .before .len .ensures
 
 pub moss-byte-set-len-spec : {M : Type 1} → statement M
-moss-byte-set-len-spec = tie.close (tie.spec len-requires counted-numbers-requires returns)
+moss-byte-set-len-spec = tie.close (tie.spec
+    (λ c κs. search needs) (λ c κs. search needs) returns)

@@ -4,14 +4,9 @@ use borrow.Author.Needs.{needs}
 use Rattle.mosspillow.proofs.byte_sets.moss_byte_set_reserve.Statement.{statement}
 use Rattle.mosspillow.proofs.byte_sets.moss_byte_set_reserve.Tie as tie
 
-reserve-requires : tie.Need-reserve-requires
-reserve-requires c κs = search needs
-
-reserved-numbers-requires : tie.Need-reserved-numbers-requires
-reserved-numbers-requires c κs = search needs
-
 returns : tie.Need-returns
 returns c = c .reserved-numbers .ensures ∙ c .before .reserve .ensures
 
 pub moss-byte-set-reserve-spec : {M : Type 1} → statement M
-moss-byte-set-reserve-spec = tie.close (tie.spec reserve-requires reserved-numbers-requires returns)
+moss-byte-set-reserve-spec = tie.close (tie.spec
+    (λ c κs. search needs) (λ c κs. search needs) returns)

@@ -5,11 +5,9 @@ use Rattle.lent.proofs.Moved.{moved}
 use Rattle.mosspillow.proofs.byte_sets.moss_byte_set_walk_on.Statement.{statement}
 use Rattle.mosspillow.proofs.byte_sets.moss_byte_set_walk_on.Tie as tie
 
-moss-byte-set-step-requires : tie.Need-moss-byte-set-step-requires
-moss-byte-set-step-requires c κs = search needs
-
 returns : tie.Need-returns
 returns c = moved (c .moss-byte-set-step .ensures) refl
 
 pub moss-byte-set-walk-on-spec : {M : Type 1} → statement M
-moss-byte-set-walk-on-spec = tie.close (tie.spec moss-byte-set-step-requires returns)
+moss-byte-set-walk-on-spec = tie.close (tie.spec
+    (λ c κs. search needs) returns)

@@ -4,14 +4,9 @@ use borrow.Author.Needs.{needs}
 use Rattle.mosspillow.proofs.int_entries.moss_int_map_occupied_get.Statement.{statement}
 use Rattle.mosspillow.proofs.int_entries.moss_int_map_occupied_get.Tie as tie
 
-get-requires : tie.Need-get-requires
-get-requires c κs = search needs
-
-held-numbers-requires : tie.Need-held-numbers-requires
-held-numbers-requires c κs = search needs
-
 returns : tie.Need-returns
 returns c = c .held-numbers .ensures ∙ c .before .get .ensures
 
 pub moss-int-map-occupied-get-spec : {M : Type 1} → statement M
-moss-int-map-occupied-get-spec = tie.close (tie.spec get-requires held-numbers-requires returns)
+moss-int-map-occupied-get-spec = tie.close (tie.spec
+    (λ c κs. search needs) (λ c κs. search needs) returns)

@@ -6,21 +6,6 @@ use Rattle.mosspillow.proofs.int_entries.moss_int_map_occupied_remove_e
 }
 use Rattle.mosspillow.proofs.int_entries.moss_int_map_occupied_remove_entry.Tie as tie
 
-remove-entry-requires : tie.Need-remove-entry-requires
-remove-entry-requires c κs = search needs
-
-taken-entry-numbers-requires : tie.Need-taken-entry-numbers-requires
-taken-entry-numbers-requires c κs = search needs
-
-same-length : tie.Need-same-length
-same-length c = search needs
-
-same-length-2 : tie.Need-same-length-2
-same-length-2 c = search needs
-
-same-length-3 : tie.Need-same-length-3
-same-length-3 c = search needs
-
 returns : tie.Need-returns
 returns c = handed (c .taken-entry-numbers .ensures) (c .before .before .before .before .before .before .before .remove-entry .ensures)
 
@@ -28,9 +13,4 @@ pub moss-int-map-occupied-remove-entry-spec : {M : Type 1} → statement M
 moss-int-map-occupied-remove-entry-spec =
     tie.close
     (tie.spec
-    remove-entry-requires
-    taken-entry-numbers-requires
-    same-length
-    same-length-2
-    same-length-3
-    returns)
+    (λ c κs. search needs) (λ c κs. search needs) (λ c. search needs) (λ c. search needs) (λ c. search needs) returns)

@@ -4,21 +4,6 @@ use borrow.Author.Needs.{needs}
 use Rattle.mosspillow.proofs.int_entries.moss_int_map_occupied_set.Statement.{statement}
 use Rattle.mosspillow.proofs.int_entries.moss_int_map_occupied_set.Tie as tie
 
-set-requires : tie.Need-set-requires
-set-requires c κs = search needs
-
-swapped-numbers-requires : tie.Need-swapped-numbers-requires
-swapped-numbers-requires c κs = search needs
-
-same-length : tie.Need-same-length
-same-length c = search needs
-
-same-length-2 : tie.Need-same-length-2
-same-length-2 c = search needs
-
-same-length-3 : tie.Need-same-length-3
-same-length-3 c = search needs
-
 returns : tie.Need-returns
 returns c = handed (c .swapped-numbers .ensures) (c .before .before .before .before .before .before .before .set .ensures)
 
@@ -26,9 +11,4 @@ pub moss-int-map-occupied-set-spec : {M : Type 1} → statement M
 moss-int-map-occupied-set-spec =
     tie.close
     (tie.spec
-    set-requires
-    swapped-numbers-requires
-    same-length
-    same-length-2
-    same-length-3
-    returns)
+    (λ c κs. search needs) (λ c κs. search needs) (λ c. search needs) (λ c. search needs) (λ c. search needs) returns)

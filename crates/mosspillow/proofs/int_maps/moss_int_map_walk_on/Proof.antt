@@ -5,11 +5,9 @@ use Rattle.lent.proofs.Moved.{moved}
 use Rattle.mosspillow.proofs.int_maps.moss_int_map_walk_on.Statement.{statement}
 use Rattle.mosspillow.proofs.int_maps.moss_int_map_walk_on.Tie as tie
 
-moss-int-map-step-requires : tie.Need-moss-int-map-step-requires
-moss-int-map-step-requires c κs = search needs
-
 returns : tie.Need-returns
 returns c = moved (c .moss-int-map-step .ensures) refl
 
 pub moss-int-map-walk-on-spec : {M : Type 1} → statement M
-moss-int-map-walk-on-spec = tie.close (tie.spec moss-int-map-step-requires returns)
+moss-int-map-walk-on-spec = tie.close (tie.spec
+    (λ c κs. search needs) returns)

@@ -4,15 +4,10 @@ use borrow.Author.Needs.{needs}
 use Rattle.mosspillow.proofs.int_sets.moss_int_set_contains.Statement.{statement}
 use Rattle.mosspillow.proofs.int_sets.moss_int_set_contains.Tie as tie
 
-contains-requires : tie.Need-contains-requires
-contains-requires c κs = search needs
-
-contained-numbers-requires : tie.Need-contained-numbers-requires
-contained-numbers-requires c κs = search needs
-
 returns : tie.Need-returns
 returns c = c .contained-numbers .ensures ∙ c .before .contains .ensures
 
 pub moss-int-set-contains-spec : {M : Type 1} → statement M
 moss-int-set-contains-spec =
-    tie.close (tie.spec contains-requires contained-numbers-requires returns)
+    tie.close (tie.spec
+    (λ c κs. search needs) (λ c κs. search needs) returns)

@@ -4,21 +4,10 @@ use borrow.Author.Needs.{needs}
 use Rattle.mosspillow.proofs.int_sets.moss_int_set_copy.Statement.{statement}
 use Rattle.mosspillow.proofs.int_sets.moss_int_set_copy.Tie as tie
 
-copy-requires : tie.Need-copy-requires
-copy-requires c κs = search needs
-
-outcome-numbers-requires : tie.Need-outcome-numbers-requires
-outcome-numbers-requires c κs = search needs
-
-same-length : tie.Need-same-length
-same-length c = search needs
-
-same-length-2 : tie.Need-same-length-2
-same-length-2 c = search needs
-
 returns : tie.Need-returns
 returns c = handed (c .outcome-numbers .ensures) (c .before .before .before .before .before .copy .ensures)
 
 pub moss-int-set-copy-spec : {M : Type 1} → statement M
 moss-int-set-copy-spec =
-    tie.close (tie.spec copy-requires outcome-numbers-requires same-length same-length-2 returns)
+    tie.close (tie.spec
+    (λ c κs. search needs) (λ c κs. search needs) (λ c. search needs) (λ c. search needs) returns)

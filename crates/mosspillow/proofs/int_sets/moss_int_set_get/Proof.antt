@@ -4,14 +4,9 @@ use borrow.Author.Needs.{needs}
 use Rattle.mosspillow.proofs.int_sets.moss_int_set_get.Statement.{statement}
 use Rattle.mosspillow.proofs.int_sets.moss_int_set_get.Tie as tie
 
-get-requires : tie.Need-get-requires
-get-requires c κs = search needs
-
-member-numbers-requires : tie.Need-member-numbers-requires
-member-numbers-requires c κs = search needs
-
 returns : tie.Need-returns
 returns c = c .member-numbers .ensures ∙ c .before .get .ensures
 
 pub moss-int-set-get-spec : {M : Type 1} → statement M
-moss-int-set-get-spec = tie.close (tie.spec get-requires member-numbers-requires returns)
+moss-int-set-get-spec = tie.close (tie.spec
+    (λ c κs. search needs) (λ c κs. search needs) returns)

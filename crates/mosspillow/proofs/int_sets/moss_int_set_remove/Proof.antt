@@ -4,21 +4,10 @@ use borrow.Author.Needs.{needs}
 use Rattle.mosspillow.proofs.int_sets.moss_int_set_remove.Statement.{statement}
 use Rattle.mosspillow.proofs.int_sets.moss_int_set_remove.Tie as tie
 
-remove-requires : tie.Need-remove-requires
-remove-requires c κs = search needs
-
-dropped-numbers-requires : tie.Need-dropped-numbers-requires
-dropped-numbers-requires c κs = search needs
-
-same-length : tie.Need-same-length
-same-length c = search needs
-
-same-length-2 : tie.Need-same-length-2
-same-length-2 c = search needs
-
 returns : tie.Need-returns
 returns c = handed (c .dropped-numbers .ensures) (c .before .before .before .before .before .remove .ensures)
 
 pub moss-int-set-remove-spec : {M : Type 1} → statement M
 moss-int-set-remove-spec =
-    tie.close (tie.spec remove-requires dropped-numbers-requires same-length same-length-2 returns)
+    tie.close (tie.spec
+    (λ c κs. search needs) (λ c κs. search needs) (λ c. search needs) (λ c. search needs) returns)

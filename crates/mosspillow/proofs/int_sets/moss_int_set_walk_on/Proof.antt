@@ -5,11 +5,9 @@ use Rattle.lent.proofs.Moved.{moved}
 use Rattle.mosspillow.proofs.int_sets.moss_int_set_walk_on.Statement.{statement}
 use Rattle.mosspillow.proofs.int_sets.moss_int_set_walk_on.Tie as tie
 
-moss-int-set-step-requires : tie.Need-moss-int-set-step-requires
-moss-int-set-step-requires c κs = search needs
-
 returns : tie.Need-returns
 returns c = moved (c .moss-int-set-step .ensures) refl
 
 pub moss-int-set-walk-on-spec : {M : Type 1} → statement M
-moss-int-set-walk-on-spec = tie.close (tie.spec moss-int-set-step-requires returns)
+moss-int-set-walk-on-spec = tie.close (tie.spec
+    (λ c κs. search needs) returns)
