@@ -23,6 +23,7 @@ use Rattle.model.specs.Iterated.{onlySteps, Iterated}
 use Rattle.model.specs.Places.{Places, Apart, names}
 use Rattle.model.proofs.Cases.{by-bool, by-eq, clash}
 use Rattle.model.proofs.Least.{lowest-given, refused-still}
+use Rattle.model.proofs.Demand2.{next-known}
 use Rattle.model.proofs.Places.{only-named}
 use Rattle.model.proofs.Numbered.{Numbered, numbered-no, numbered-ok, told-refused}
 use Rattle.model.proofs.Tables.{sure-healthy, sure-looks, sure-counts, booked-shows, booked-sure, booked-stands, sure-paces}
@@ -115,27 +116,12 @@ module _ {K W : Type 0} (M : Store K W) (P : Published M) (N : Linked M P) where
 
   -- A known table stays known after every call, but an accepted copy onto it from a table that is not.
   pub stays-known : (s : Book M) (x : ℕ) → isSome (s .maps x) ≡ true → (z : ℕ) (c : P .Call) → ((y : ℕ) → P .meant (s .world) x c ≡ copies y → isSome (s .maps y) ≡ true) → isSome (noted M P s z c .maps x) ≡ true
-  unfolding learned placed next mapped joined isSome
+  unfolding learned placed
   stays-known s x k z c h = by-eq x z
       (λ e t. rw t (by-bool (eqb (P .told-by (s .world) z c .numbers .refusal) 0)
-      (λ u. rw (u, sym e) (next-known (P .meant (s .world) x c) (h)))
+      (λ u. rw (u, sym e) (next-known M (s .world) (s .maps) x k (P .meant (s .world) x c) h))
       (λ u. rw (u, sym e) k)))
       (λ e t. rw t k)
-    where
-      mapped-known : (u : Finite K W → Finite K W) (o : Option (Finite K W)) → isSome o ≡ true → isSome (mapped M u o) ≡ true
-      mapped-known u none q = clash cc
-      mapped-known u (some f) q = refl
-
-      joined-known : (o p : Option (Finite K W)) (ps : List (K × W)) → isSome o ≡ true → isSome (joined M o p ps) ≡ true
-      joined-known none p ps q = clash cc
-      joined-known (some f) none ps q = refl
-      joined-known (some f) (some g) ps q = refl
-
-      next-known : (d : model.Call K W) → ((y : ℕ) → d ≡ copies y → isSome (s .maps y) ≡ true) → isSome (next M (s .world) (s .maps) x d) ≡ true
-      next-known (own o) g = by-bool (renews M o) (λ u. rw u) (λ u. rw u (mapped-known (grows M o) (s .maps x) k))
-      next-known (copies y) g = g y refl
-      next-known (unions y) g = joined-known (s .maps x) (s .maps y) _ k
-      next-known (steps a b) g = k
 
   -- Demand 2: any list of published calls over any number of tables, on any memory.
   pub told-in-step : Lawful M → (D : Duty M P) → ((s : Book M) → Right M P s → (x : ℕ) (c : P .Call) (f : Finite K W) → s .maps x ≡ some f → D s x f c (P .told-by (s .world) x c)) → (cs : List (ℕ × P .Call)) (s : Book M) → Right M P s → ToldInStep M P D cs s

@@ -1,10 +1,11 @@
 -- What is known of a table's map after any call is so: the memory that the call leaves shows that map.
 use Prim.Native.Nat.{ℕ}
-use mathlib.Core.Bool.{cond}
+use mathlib.Core.Bool.{true, cond}
+use mathlib.Core.List.{List}
 use mathlib.Core.Path.{_≡_, refl, subst}
 use mathlib.Core.Option.{Option, none, some}
 use Rattle.model.specs.Slots.{pairs}
-use Rattle.model.specs.Finite.{Finite, empty, union-prefer-right, insertAll}
+use Rattle.model.specs.Finite.{Finite, isSome, empty, union-prefer-right, insertAll}
 use Rattle.model.specs.Store.{Store}
 use Rattle.model.specs.Calls.{Or, no, ok, acted, capacity, after-make, copy, after-copy, storeAll, union, after-union}
 use Rattle.model.specs.Machine.{Own, Call, own, copies, unions, steps, fine, paced, report, World, tells, leaves, stepping, answer, left}
@@ -59,3 +60,23 @@ module _ {K W : Type 0} (M : Store K W) (L : Lawful M) where
   left-shows w e known x (copies y) f q = acted-left (w x) (copy M (w x) (w y)) (w y) (e x) (e y) f (known x) (λ u t r. known y f r) q
   left-shows w e known x (unions y) f q = acted-left (w x) (union M (w x) (w y)) _ (e x) (joined M (e x) (e y) (pairs (M .slots (w y)) (M .size (w y)))) f (known x) (λ u t r. joined-shows (w x) (w y) (e x) (e y) (known x) (known y) f u t r) q
   left-shows w e known x (steps a b) f q = known x f (by-bool (refuses (report {K = K} paced (stepping M (w x) a b))) (λ p. rw p at q) (λ p. rw p at q))
+
+-- a known table stays known after every accepted call, but a copy onto it from a table that is not
+module _ {K W : Type 0} (M : Store K W) (w : World M) (e : ℕ → Option (Finite K W)) (x : ℕ) (k : isSome (e x) ≡ true) where
+  mapped-known : (u : Finite K W → Finite K W) (o : Option (Finite K W)) → isSome o ≡ true → isSome (mapped M u o) ≡ true
+  unfolding mapped isSome
+  mapped-known u none q = clash cc
+  mapped-known u (some f) q = refl
+
+  joined-known : (o p : Option (Finite K W)) (ps : List (K × W)) → isSome o ≡ true → isSome (joined M o p ps) ≡ true
+  unfolding joined isSome
+  joined-known none p ps q = clash cc
+  joined-known (some f) none ps q = refl
+  joined-known (some f) (some g) ps q = refl
+
+  pub next-known : (c : Call K W) → ((y : ℕ) → c ≡ copies y → isSome (e y) ≡ true) → isSome (next M w e x c) ≡ true
+  unfolding next isSome
+  next-known (own o) g = by-bool (renews M o) (λ u. rw u) (λ u. rw u (mapped-known (grows M o) (e x) k))
+  next-known (copies y) g = g y refl
+  next-known (unions y) g = joined-known (e x) (e y) (pairs (M .slots (w y)) (M .size (w y))) k
+  next-known (steps a b) g = k
