@@ -2,7 +2,7 @@
 ghost use mathlib.Core.Path.{_≡_};
 ghost use Prim.Native.Nat.{_+_, _≤_};
 ghost use lib.ListN.{length};
-ghost use Rattle.spans.specs.Memory.{part, pasted, closed, fall, fallen, filled, emptied, wiped, spansOf};
+ghost use Rattle.spans.specs.Memory.{part, pasted, closed, fall, fallen, filled, emptied, wiped, spansNow, spansBefore, spansAfter};
 ghost use Rattle.arena.specs.Needs.{Fillable, Freeable};
 use arrays::clear_bytes;
 use arrays::clear_shorts;
@@ -80,8 +80,8 @@ pub fn fill(
     used: usize,
     key: &[u8],
 )
-    requires { ⌜ Fillable (spansOf (now marks) (now offsets) (now lengths) (now arena)) slot used (now key) ⌝ }
-    ensures { λ r. ⌜ spansOf (now (marks .exit)) (now (offsets .exit)) (now (lengths .exit)) (now (arena .exit)) ≡ filled (spansOf (now (marks .entry)) (now (offsets .entry)) (now (lengths .entry)) (now (arena .entry))) slot (now (key .entry)) ⌝ }
+    requires { ⌜ Fillable (spansNow marks offsets lengths arena) slot used (now key) ⌝ }
+    ensures { λ r. ⌜ spansAfter marks offsets lengths arena ≡ filled (spansBefore marks offsets lengths arena) slot (now (key .entry)) ⌝ }
 {
     paste(arena, used, key);
     marks[slot] = 1;
@@ -98,8 +98,8 @@ pub fn free(
     slot: usize,
     used: usize,
 )
-    requires { ⌜ Freeable (spansOf (now marks) (now offsets) (now lengths) (now arena)) slot used ⌝ }
-    ensures { λ r. ⌜ spansOf (now (marks .exit)) (now (offsets .exit)) (now (lengths .exit)) (now (arena .exit)) ≡ emptied (spansOf (now (marks .entry)) (now (offsets .entry)) (now (lengths .entry)) (now (arena .entry))) slot ⌝ }
+    requires { ⌜ Freeable (spansNow marks offsets lengths arena) slot used ⌝ }
+    ensures { λ r. ⌜ spansAfter marks offsets lengths arena ≡ emptied (spansBefore marks offsets lengths arena) slot ⌝ }
 {
     let offset = offset_at(offsets, slot);
     let len = len_at(lengths, slot);
@@ -112,7 +112,7 @@ pub fn free(
 
 // All marks, offsets, lengths and arena bytes are to be 0.
 pub fn wipe(marks: &mut [u8], offsets: &mut [u16], lengths: &mut [u8], arena: &mut [u8])
-    ensures { λ r. ⌜ spansOf (now (marks .exit)) (now (offsets .exit)) (now (lengths .exit)) (now (arena .exit)) ≡ wiped (spansOf (now (marks .entry)) (now (offsets .entry)) (now (lengths .entry)) (now (arena .entry))) ⌝ }
+    ensures { λ r. ⌜ spansAfter marks offsets lengths arena ≡ wiped (spansBefore marks offsets lengths arena) ⌝ }
 {
     clear_bytes(marks);
     clear_shorts(offsets);

@@ -3,7 +3,8 @@ ghost use mathlib.Core.Path.{_≡_};
 ghost use Rattle.answers.specs.Numbers.{outcomeNumbers};
 ghost use Rattle.kinds.specs.Told.{told};
 ghost use Rattle.kinds.specs.Calls.{copyOf};
-ghost use Rattle.spans.specs.Kinds.{maps, mapMemory};
+ghost use Rattle.spans.specs.Kinds.{maps};
+ghost use Rattle.spans.specs.Maps.{before, after};
 use answers::Outcome;
 use answers::Refusal;
 use arrays::copy_bytes;
@@ -24,7 +25,7 @@ pub fn copy(
     values: &[u64],
     arena: &[u8],
 ) -> Outcome
-    ensures { λ r. ⌜ told (outcomeNumbers r) (mapMemory (now («to_marks» .exit)) (now («to_offsets» .exit)) (now («to_lengths» .exit)) (now («to_values» .exit)) (now («to_arena» .exit))) ≡ copyOf maps (mapMemory (now («to_marks» .entry)) (now («to_offsets» .entry)) (now («to_lengths» .entry)) (now («to_values» .entry)) (now («to_arena» .entry))) (mapMemory (now (marks .entry)) (now (offsets .entry)) (now (lengths .entry)) (now (values .entry)) (now (arena .entry))) ⌝ }
+    ensures { λ r. ⌜ told (outcomeNumbers r) (after «to_marks» «to_offsets» «to_lengths» «to_values» «to_arena») ≡ copyOf maps (before «to_marks» «to_offsets» «to_lengths» «to_values» «to_arena») (before marks offsets lengths values arena) ⌝ }
 {
     if to_arena.len() != arena.len() {
         return Outcome::Refused(Refusal::Sizes);

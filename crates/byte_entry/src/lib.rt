@@ -3,7 +3,8 @@ ghost use mathlib.Core.Path.{_≡_};
 ghost use lib.ListN.{length};
 ghost use Rattle.kinds.specs.Calls.{entryOf, orInsertOf, insertEntryOf};
 ghost use Rattle.kinds.specs.Told.{told};
-ghost use Rattle.spans.specs.Kinds.{maps, mapMemory};
+ghost use Rattle.spans.specs.Kinds.{maps};
+ghost use Rattle.spans.specs.Maps.{before, after};
 ghost use Rattle.byte_vacant.specs.Numbers.{standingNumbers};
 ghost use Rattle.byte_entry.specs.Numbers.{enteredNumbers};
 ghost use Rattle.byte_entry.specs.Calls.{placeOf, handleOf};
@@ -35,7 +36,7 @@ pub fn entry(
     arena: &[u8],
     key: &[u8],
 ) -> Entered
-    ensures { λ r. ⌜ enteredNumbers r ≡ entryOf maps (mapMemory (now (marks .entry)) (now (offsets .entry)) (now (lengths .entry)) (now (values .entry)) (now (arena .entry))) (now (key .entry)) ⌝ }
+    ensures { λ r. ⌜ enteredNumbers r ≡ entryOf maps (before marks offsets lengths values arena) (now (key .entry)) ⌝ }
 {
     let plan = place(marks, offsets, lengths, values, arena, key);
     match plan {
@@ -67,7 +68,7 @@ impl Entered {
         key: &[u8],
         default: u64,
     ) -> Standing
-        ensures { λ r. ⌜ told (standingNumbers r) (mapMemory (now (marks .exit)) (now (offsets .exit)) (now (lengths .exit)) (now (values .exit)) (now (arena .exit))) ≡ orInsertOf maps (mapMemory (now (marks .entry)) (now (offsets .entry)) (now (lengths .entry)) (now (values .entry)) (now (arena .entry))) (handleOf (length (now (marks .entry))) self) (now (key .entry)) default ⌝ }
+        ensures { λ r. ⌜ told (standingNumbers r) (after marks offsets lengths values arena) ≡ orInsertOf maps (before marks offsets lengths values arena) (handleOf (length (now (marks .entry))) self) (now (key .entry)) default ⌝ }
     {
         let Entered::Occupied(handle, _, _) = self else {
             return self.place(marks.len())
@@ -91,7 +92,7 @@ impl Entered {
         key: &[u8],
         value: u64,
     ) -> Standing
-        ensures { λ r. ⌜ told (standingNumbers r) (mapMemory (now (marks .exit)) (now (offsets .exit)) (now (lengths .exit)) (now (values .exit)) (now (arena .exit))) ≡ insertEntryOf maps (mapMemory (now (marks .entry)) (now (offsets .entry)) (now (lengths .entry)) (now (values .entry)) (now (arena .entry))) (handleOf (length (now (marks .entry))) self) (now (key .entry)) value ⌝ }
+        ensures { λ r. ⌜ told (standingNumbers r) (after marks offsets lengths values arena) ≡ insertEntryOf maps (before marks offsets lengths values arena) (handleOf (length (now (marks .entry))) self) (now (key .entry)) value ⌝ }
     {
         let Entered::Occupied(handle, _, _) = self else {
             return self.place(marks.len())

@@ -3,7 +3,8 @@ ghost use mathlib.Core.Path.{_≡_};
 ghost use lib.ListN.{length};
 ghost use Rattle.kinds.specs.Calls.{heldOf, setOf, takenOf};
 ghost use Rattle.kinds.specs.Told.{told};
-ghost use Rattle.spans.specs.Kinds.{maps, mapMemory};
+ghost use Rattle.spans.specs.Kinds.{maps};
+ghost use Rattle.spans.specs.Maps.{before, after};
 ghost use Rattle.byte_handles.specs.Numbers.{heldNumbers, swappedNumbers, takenNumbers};
 ghost use Rattle.byte_handles.specs.Planning.{heldBy, gripping, holding, pulledBy, pulling};
 use answers::Refusal;
@@ -64,7 +65,7 @@ fn grip(
     key: &[u8],
 ) -> Held
     requires { ⌜ (length (now offsets) ≡ length (now marks)) × (length (now lengths) ≡ length (now marks)) × (length (now values) ≡ length (now marks)) ⌝ }
-    ensures { λ r. ⌜ r ≡ gripping (mapMemory (now (marks .entry)) (now (offsets .entry)) (now (lengths .entry)) (now (values .entry)) (now (arena .entry))) slot (now (key .entry)) ⌝ }
+    ensures { λ r. ⌜ r ≡ gripping (before marks offsets lengths values arena) slot (now (key .entry)) ⌝ }
 {
     if slot < marks.len() {
         let sight = spans::look(marks, offsets, lengths, arena, slot, key);
@@ -83,7 +84,7 @@ fn hold(
     slot: usize,
     key: &[u8],
 ) -> Held
-    ensures { λ r. ⌜ r ≡ holding (mapMemory (now (marks .entry)) (now (offsets .entry)) (now (lengths .entry)) (now (values .entry)) (now (arena .entry))) slot (now (key .entry)) ⌝ }
+    ensures { λ r. ⌜ r ≡ holding (before marks offsets lengths values arena) slot (now (key .entry)) ⌝ }
 {
     if map_fits(marks, offsets, lengths, values, arena) {
         if spans::may_ask(key) {
@@ -114,7 +115,7 @@ fn pull(
     slot: usize,
     key: &[u8],
 ) -> Pulled
-    ensures { λ r. ⌜ r ≡ pulling (mapMemory (now (marks .entry)) (now (offsets .entry)) (now (lengths .entry)) (now (values .entry)) (now (arena .entry))) slot (now (key .entry)) ⌝ }
+    ensures { λ r. ⌜ r ≡ pulling (before marks offsets lengths values arena) slot (now (key .entry)) ⌝ }
 {
     if map_fits(marks, offsets, lengths, values, arena) {
         if spans::may_ask(key) {
@@ -143,7 +144,7 @@ impl Occupied {
         arena: &[u8],
         key: &[u8],
     ) -> Held
-        ensures { λ r. ⌜ heldNumbers r ≡ heldOf maps (mapMemory (now (marks .entry)) (now (offsets .entry)) (now (lengths .entry)) (now (values .entry)) (now (arena .entry))) (self .slot) (now (key .entry)) ⌝ }
+        ensures { λ r. ⌜ heldNumbers r ≡ heldOf maps (before marks offsets lengths values arena) (self .slot) (now (key .entry)) ⌝ }
     {
         hold(marks, offsets, lengths, values, arena, self.slot, key)
     }
@@ -159,7 +160,7 @@ impl Occupied {
         key: &[u8],
         value: u64,
     ) -> Swapped
-        ensures { λ r. ⌜ told (swappedNumbers r) (mapMemory (now (marks .exit)) (now (offsets .exit)) (now (lengths .exit)) (now (values .exit)) (now (arena .exit))) ≡ setOf maps (mapMemory (now (marks .entry)) (now (offsets .entry)) (now (lengths .entry)) (now (values .entry)) (now (arena .entry))) (self .slot) (now (key .entry)) value ⌝ }
+        ensures { λ r. ⌜ told (swappedNumbers r) (after marks offsets lengths values arena) ≡ setOf maps (before marks offsets lengths values arena) (self .slot) (now (key .entry)) value ⌝ }
     {
         let slot = self.slot;
         let held = hold(marks, offsets, lengths, values, arena, slot, key);
@@ -182,7 +183,7 @@ impl Occupied {
         arena: &mut [u8],
         key: &[u8],
     ) -> Taken
-        ensures { λ r. ⌜ told (takenNumbers r) (mapMemory (now (marks .exit)) (now (offsets .exit)) (now (lengths .exit)) (now (values .exit)) (now (arena .exit))) ≡ takenOf maps (mapMemory (now (marks .entry)) (now (offsets .entry)) (now (lengths .entry)) (now (values .entry)) (now (arena .entry))) (self .slot) (now (key .entry)) ⌝ }
+        ensures { λ r. ⌜ told (takenNumbers r) (after marks offsets lengths values arena) ≡ takenOf maps (before marks offsets lengths values arena) (self .slot) (now (key .entry)) ⌝ }
     {
         let slot = self.slot;
         let plan = pull(marks, offsets, lengths, values, arena, slot, key);
@@ -206,7 +207,7 @@ impl Occupied {
         arena: &mut [u8],
         key: &[u8],
     ) -> Taken
-        ensures { λ r. ⌜ told (takenNumbers r) (mapMemory (now (marks .exit)) (now (offsets .exit)) (now (lengths .exit)) (now (values .exit)) (now (arena .exit))) ≡ takenOf maps (mapMemory (now (marks .entry)) (now (offsets .entry)) (now (lengths .entry)) (now (values .entry)) (now (arena .entry))) (self .slot) (now (key .entry)) ⌝ }
+        ensures { λ r. ⌜ told (takenNumbers r) (after marks offsets lengths values arena) ≡ takenOf maps (before marks offsets lengths values arena) (self .slot) (now (key .entry)) ⌝ }
     {
         self.remove(marks, offsets, lengths, values, arena, key)
     }

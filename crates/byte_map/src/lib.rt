@@ -3,7 +3,8 @@ ghost use mathlib.Core.Path.{_≡_};
 ghost use Rattle.answers.specs.Numbers.{outcomeNumbers, storedNumbers, removedNumbers};
 ghost use Rattle.kinds.specs.Told.{told};
 ghost use Rattle.kinds.specs.Calls.{makeOf, removeOf};
-ghost use Rattle.spans.specs.Kinds.{maps, mapMemory, insertOf};
+ghost use Rattle.spans.specs.Kinds.{maps, insertOf};
+ghost use Rattle.spans.specs.Maps.{before, after};
 ghost use Rattle.byte_map.specs.Planning.{placingMap, locatingMap};
 use answers::Outcome;
 use answers::Refusal;
@@ -26,7 +27,7 @@ pub fn place(
     arena: &[u8],
     key: &[u8],
 ) -> Placed
-    ensures { λ r. ⌜ r ≡ placingMap (mapMemory (now (marks .entry)) (now (offsets .entry)) (now (lengths .entry)) (now (values .entry)) (now (arena .entry))) (now (key .entry)) ⌝ }
+    ensures { λ r. ⌜ r ≡ placingMap (before marks offsets lengths values arena) (now (key .entry)) ⌝ }
 {
     if marks.len() == values.len() {
         return spans::place(marks, offsets, lengths, arena, key);
@@ -43,7 +44,7 @@ pub fn locate(
     arena: &[u8],
     key: &[u8],
 ) -> Located
-    ensures { λ r. ⌜ r ≡ locatingMap (mapMemory (now (marks .entry)) (now (offsets .entry)) (now (lengths .entry)) (now (values .entry)) (now (arena .entry))) (now (key .entry)) ⌝ }
+    ensures { λ r. ⌜ r ≡ locatingMap (before marks offsets lengths values arena) (now (key .entry)) ⌝ }
 {
     if marks.len() == values.len() {
         return spans::locate(marks, offsets, lengths, arena, key);
@@ -59,7 +60,7 @@ pub fn make(
     values: &mut [u64],
     arena: &mut [u8],
 ) -> Outcome
-    ensures { λ r. ⌜ told (outcomeNumbers r) (mapMemory (now (marks .exit)) (now (offsets .exit)) (now (lengths .exit)) (now (values .exit)) (now (arena .exit))) ≡ makeOf maps (mapMemory (now (marks .entry)) (now (offsets .entry)) (now (lengths .entry)) (now (values .entry)) (now (arena .entry))) ⌝ }
+    ensures { λ r. ⌜ told (outcomeNumbers r) (after marks offsets lengths values arena) ≡ makeOf maps (before marks offsets lengths values arena) ⌝ }
 {
     if map_fits(marks, offsets, lengths, values, arena) {
         wipe(marks, offsets, lengths, arena);
@@ -77,7 +78,7 @@ pub fn clear(
     values: &mut [u64],
     arena: &mut [u8],
 ) -> Outcome
-    ensures { λ r. ⌜ told (outcomeNumbers r) (mapMemory (now (marks .exit)) (now (offsets .exit)) (now (lengths .exit)) (now (values .exit)) (now (arena .exit))) ≡ makeOf maps (mapMemory (now (marks .entry)) (now (offsets .entry)) (now (lengths .entry)) (now (values .entry)) (now (arena .entry))) ⌝ }
+    ensures { λ r. ⌜ told (outcomeNumbers r) (after marks offsets lengths values arena) ≡ makeOf maps (before marks offsets lengths values arena) ⌝ }
 {
     make(marks, offsets, lengths, values, arena)
 }
@@ -92,7 +93,7 @@ pub fn insert(
     key: &[u8],
     value: u64,
 ) -> Stored
-    ensures { λ r. ⌜ told (storedNumbers r) (mapMemory (now (marks .exit)) (now (offsets .exit)) (now (lengths .exit)) (now (values .exit)) (now (arena .exit))) ≡ insertOf (mapMemory (now (marks .entry)) (now (offsets .entry)) (now (lengths .entry)) (now (values .entry)) (now (arena .entry))) (now (key .entry)) value ⌝ }
+    ensures { λ r. ⌜ told (storedNumbers r) (after marks offsets lengths values arena) ≡ insertOf (before marks offsets lengths values arena) (now (key .entry)) value ⌝ }
 {
     let plan = place(marks, offsets, lengths, values, arena, key);
     match plan {
@@ -119,7 +120,7 @@ pub fn remove(
     arena: &mut [u8],
     key: &[u8],
 ) -> Removed
-    ensures { λ r. ⌜ told (removedNumbers r) (mapMemory (now (marks .exit)) (now (offsets .exit)) (now (lengths .exit)) (now (values .exit)) (now (arena .exit))) ≡ removeOf maps (mapMemory (now (marks .entry)) (now (offsets .entry)) (now (lengths .entry)) (now (values .entry)) (now (arena .entry))) (now (key .entry)) ⌝ }
+    ensures { λ r. ⌜ told (removedNumbers r) (after marks offsets lengths values arena) ≡ removeOf maps (before marks offsets lengths values arena) (now (key .entry)) ⌝ }
 {
     let plan = locate(marks, offsets, lengths, values, arena, key);
     match plan {

@@ -2,7 +2,8 @@
 ghost use mathlib.Core.Path.{_≡_};
 ghost use Rattle.answers.specs.Numbers.{countedNumbers, emptinessNumbers, reservedNumbers, gotNumbers, containedNumbers};
 ghost use Rattle.kinds.specs.Calls.{capacityOf, lenOf, isEmptyOf, reserveOf, getOf, containsOf};
-ghost use Rattle.spans.specs.Kinds.{maps, mapMemory};
+ghost use Rattle.spans.specs.Kinds.{maps};
+ghost use Rattle.spans.specs.Maps.{before};
 ghost use Rattle.byte_reads.specs.Seeking.{sizedOf, seekingMap};
 use answers::Contained;
 use answers::Counted;
@@ -15,7 +16,7 @@ use kinds::Scanned;
 
 // Whether the lent arrays may be a map: those of the keys, and as many values.
 pub fn map_fits(marks: &[u8], offsets: &[u16], lengths: &[u8], values: &[u64], arena: &[u8]) -> bool
-    ensures { λ r. ⌜ r ≡ sizedOf maps (mapMemory (now (marks .entry)) (now (offsets .entry)) (now (lengths .entry)) (now (values .entry)) (now (arena .entry))) ⌝ }
+    ensures { λ r. ⌜ r ≡ sizedOf maps (before marks offsets lengths values arena) ⌝ }
 {
     if spans::fits(marks, offsets, lengths, arena) {
         return marks.len() == values.len();
@@ -32,7 +33,7 @@ pub fn seek(
     arena: &[u8],
     key: &[u8],
 ) -> Probed
-    ensures { λ r. ⌜ r ≡ seekingMap (mapMemory (now (marks .entry)) (now (offsets .entry)) (now (lengths .entry)) (now (values .entry)) (now (arena .entry))) (now (key .entry)) ⌝ }
+    ensures { λ r. ⌜ r ≡ seekingMap (before marks offsets lengths values arena) (now (key .entry)) ⌝ }
 {
     if marks.len() == values.len() {
         return spans::probe(marks, offsets, lengths, arena, key);
@@ -48,7 +49,7 @@ pub fn capacity(
     values: &[u64],
     arena: &[u8],
 ) -> Counted
-    ensures { λ r. ⌜ countedNumbers r ≡ capacityOf maps (mapMemory (now (marks .entry)) (now (offsets .entry)) (now (lengths .entry)) (now (values .entry)) (now (arena .entry))) ⌝ }
+    ensures { λ r. ⌜ countedNumbers r ≡ capacityOf maps (before marks offsets lengths values arena) ⌝ }
 {
     if map_fits(marks, offsets, lengths, values, arena) {
         return Counted::Count(marks.len());
@@ -58,7 +59,7 @@ pub fn capacity(
 
 // The number of keys.
 pub fn len(marks: &[u8], offsets: &[u16], lengths: &[u8], values: &[u64], arena: &[u8]) -> Counted
-    ensures { λ r. ⌜ countedNumbers r ≡ lenOf maps (mapMemory (now (marks .entry)) (now (offsets .entry)) (now (lengths .entry)) (now (values .entry)) (now (arena .entry))) ⌝ }
+    ensures { λ r. ⌜ countedNumbers r ≡ lenOf maps (before marks offsets lengths values arena) ⌝ }
 {
     if map_fits(marks, offsets, lengths, values, arena) {
         let seen = spans::scan(marks, offsets, lengths, arena);
@@ -78,7 +79,7 @@ pub fn is_empty(
     values: &[u64],
     arena: &[u8],
 ) -> Emptiness
-    ensures { λ r. ⌜ emptinessNumbers r ≡ isEmptyOf maps (mapMemory (now (marks .entry)) (now (offsets .entry)) (now (lengths .entry)) (now (values .entry)) (now (arena .entry))) ⌝ }
+    ensures { λ r. ⌜ emptinessNumbers r ≡ isEmptyOf maps (before marks offsets lengths values arena) ⌝ }
 {
     let count = len(marks, offsets, lengths, values, arena);
     match count {
@@ -101,7 +102,7 @@ pub fn reserve(
     arena: &[u8],
     asked: u64,
 ) -> Reserved
-    ensures { λ r. ⌜ reservedNumbers r ≡ reserveOf maps (mapMemory (now (marks .entry)) (now (offsets .entry)) (now (lengths .entry)) (now (values .entry)) (now (arena .entry))) asked ⌝ }
+    ensures { λ r. ⌜ reservedNumbers r ≡ reserveOf maps (before marks offsets lengths values arena) asked ⌝ }
 {
     let count = len(marks, offsets, lengths, values, arena);
     match count {
@@ -124,7 +125,7 @@ pub fn get(
     arena: &[u8],
     key: &[u8],
 ) -> Got
-    ensures { λ r. ⌜ gotNumbers r ≡ getOf maps (mapMemory (now (marks .entry)) (now (offsets .entry)) (now (lengths .entry)) (now (values .entry)) (now (arena .entry))) (now (key .entry)) ⌝ }
+    ensures { λ r. ⌜ gotNumbers r ≡ getOf maps (before marks offsets lengths values arena) (now (key .entry)) ⌝ }
 {
     let seen = seek(marks, offsets, lengths, values, arena, key);
     match seen {
@@ -144,7 +145,7 @@ pub fn contains_key(
     arena: &[u8],
     key: &[u8],
 ) -> Contained
-    ensures { λ r. ⌜ containedNumbers r ≡ containsOf maps (mapMemory (now (marks .entry)) (now (offsets .entry)) (now (lengths .entry)) (now (values .entry)) (now (arena .entry))) (now (key .entry)) ⌝ }
+    ensures { λ r. ⌜ containedNumbers r ≡ containsOf maps (before marks offsets lengths values arena) (now (key .entry)) ⌝ }
 {
     let seen = seek(marks, offsets, lengths, values, arena, key);
     match seen {

@@ -3,7 +3,8 @@ ghost use mathlib.Core.Path.{_≡_};
 ghost use Rattle.answers.specs.Numbers.{outcomeNumbers, joinedNumbers, droppedNumbers};
 ghost use Rattle.kinds.specs.Calls.{makeOf, droppedOf};
 ghost use Rattle.kinds.specs.Told.{told};
-ghost use Rattle.spans.specs.Kinds.{sets, setMemory, joinOf};
+ghost use Rattle.spans.specs.Kinds.{sets, joinOf};
+ghost use Rattle.spans.specs.Sets.{before, after};
 use answers::Dropped;
 use answers::Joined;
 use answers::Outcome;
@@ -13,7 +14,7 @@ use spans::Placed;
 
 // Makes an empty set of the lent arrays.
 pub fn make(marks: &mut [u8], offsets: &mut [u16], lengths: &mut [u8], arena: &mut [u8]) -> Outcome
-    ensures { λ r. ⌜ told (outcomeNumbers r) (setMemory (now (marks .exit)) (now (offsets .exit)) (now (lengths .exit)) (now (arena .exit))) ≡ makeOf sets (setMemory (now (marks .entry)) (now (offsets .entry)) (now (lengths .entry)) (now (arena .entry))) ⌝ }
+    ensures { λ r. ⌜ told (outcomeNumbers r) (after marks offsets lengths arena) ≡ makeOf sets (before marks offsets lengths arena) ⌝ }
 {
     if spans::fits(marks, offsets, lengths, arena) {
         arena::wipe(marks, offsets, lengths, arena);
@@ -25,7 +26,7 @@ pub fn make(marks: &mut [u8], offsets: &mut [u16], lengths: &mut [u8], arena: &m
 
 // Empties a set: every slot becomes never used, every arena byte 0.
 pub fn clear(marks: &mut [u8], offsets: &mut [u16], lengths: &mut [u8], arena: &mut [u8]) -> Outcome
-    ensures { λ r. ⌜ told (outcomeNumbers r) (setMemory (now (marks .exit)) (now (offsets .exit)) (now (lengths .exit)) (now (arena .exit))) ≡ makeOf sets (setMemory (now (marks .entry)) (now (offsets .entry)) (now (lengths .entry)) (now (arena .entry))) ⌝ }
+    ensures { λ r. ⌜ told (outcomeNumbers r) (after marks offsets lengths arena) ≡ makeOf sets (before marks offsets lengths arena) ⌝ }
 {
     make(marks, offsets, lengths, arena)
 }
@@ -38,7 +39,7 @@ pub fn insert(
     arena: &mut [u8],
     key: &[u8],
 ) -> Joined
-    ensures { λ r. ⌜ told (joinedNumbers r) (setMemory (now (marks .exit)) (now (offsets .exit)) (now (lengths .exit)) (now (arena .exit))) ≡ joinOf (setMemory (now (marks .entry)) (now (offsets .entry)) (now (lengths .entry)) (now (arena .entry))) (now (key .entry)) ⌝ }
+    ensures { λ r. ⌜ told (joinedNumbers r) (after marks offsets lengths arena) ≡ joinOf (before marks offsets lengths arena) (now (key .entry)) ⌝ }
 {
     let plan = spans::place(marks, offsets, lengths, arena, key);
     match plan {
@@ -59,7 +60,7 @@ pub fn remove(
     arena: &mut [u8],
     key: &[u8],
 ) -> Dropped
-    ensures { λ r. ⌜ told (droppedNumbers r) (setMemory (now (marks .exit)) (now (offsets .exit)) (now (lengths .exit)) (now (arena .exit))) ≡ droppedOf sets (setMemory (now (marks .entry)) (now (offsets .entry)) (now (lengths .entry)) (now (arena .entry))) (now (key .entry)) ⌝ }
+    ensures { λ r. ⌜ told (droppedNumbers r) (after marks offsets lengths arena) ≡ droppedOf sets (before marks offsets lengths arena) (now (key .entry)) ⌝ }
 {
     let plan = spans::locate(marks, offsets, lengths, arena, key);
     match plan {

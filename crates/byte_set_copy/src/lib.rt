@@ -3,7 +3,8 @@ ghost use mathlib.Core.Path.{_≡_};
 ghost use Rattle.answers.specs.Numbers.{outcomeNumbers};
 ghost use Rattle.kinds.specs.Told.{told};
 ghost use Rattle.kinds.specs.Calls.{copyOf};
-ghost use Rattle.spans.specs.Kinds.{sets, setMemory};
+ghost use Rattle.spans.specs.Kinds.{sets};
+ghost use Rattle.spans.specs.Sets.{before, after};
 use answers::Outcome;
 use answers::Refusal;
 use arrays::copy_bytes;
@@ -21,7 +22,7 @@ pub fn copy(
     lengths: &[u8],
     arena: &[u8],
 ) -> Outcome
-    ensures { λ r. ⌜ told (outcomeNumbers r) (setMemory (now («to_marks» .exit)) (now («to_offsets» .exit)) (now («to_lengths» .exit)) (now («to_arena» .exit))) ≡ copyOf sets (setMemory (now («to_marks» .entry)) (now («to_offsets» .entry)) (now («to_lengths» .entry)) (now («to_arena» .entry))) (setMemory (now (marks .entry)) (now (offsets .entry)) (now (lengths .entry)) (now (arena .entry))) ⌝ }
+    ensures { λ r. ⌜ told (outcomeNumbers r) (after «to_marks» «to_offsets» «to_lengths» «to_arena») ≡ copyOf sets (before «to_marks» «to_offsets» «to_lengths» «to_arena») (before marks offsets lengths arena) ⌝ }
 {
     if to_arena.len() != arena.len() {
         return Outcome::Refused(Refusal::Sizes);

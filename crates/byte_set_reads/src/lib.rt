@@ -2,7 +2,8 @@
 ghost use mathlib.Core.Path.{_≡_};
 ghost use Rattle.answers.specs.Numbers.{countedNumbers, emptinessNumbers, reservedNumbers, spannedNumbers, containedNumbers};
 ghost use Rattle.kinds.specs.Calls.{capacityOf, lenOf, isEmptyOf, reserveOf, containsOf};
-ghost use Rattle.spans.specs.Kinds.{sets, setMemory, spanOf};
+ghost use Rattle.spans.specs.Kinds.{sets, spanOf};
+ghost use Rattle.spans.specs.Sets.{before};
 use answers::Contained;
 use answers::Counted;
 use answers::Emptiness;
@@ -16,7 +17,7 @@ use spans::offset_at;
 
 // The number of slots.
 pub fn capacity(marks: &[u8], offsets: &[u16], lengths: &[u8], arena: &[u8]) -> Counted
-    ensures { λ r. ⌜ countedNumbers r ≡ capacityOf sets (setMemory (now (marks .entry)) (now (offsets .entry)) (now (lengths .entry)) (now (arena .entry))) ⌝ }
+    ensures { λ r. ⌜ countedNumbers r ≡ capacityOf sets (before marks offsets lengths arena) ⌝ }
 {
     if spans::fits(marks, offsets, lengths, arena) {
         return Counted::Count(marks.len());
@@ -26,7 +27,7 @@ pub fn capacity(marks: &[u8], offsets: &[u16], lengths: &[u8], arena: &[u8]) -> 
 
 // The number of keys.
 pub fn len(marks: &[u8], offsets: &[u16], lengths: &[u8], arena: &[u8]) -> Counted
-    ensures { λ r. ⌜ countedNumbers r ≡ lenOf sets (setMemory (now (marks .entry)) (now (offsets .entry)) (now (lengths .entry)) (now (arena .entry))) ⌝ }
+    ensures { λ r. ⌜ countedNumbers r ≡ lenOf sets (before marks offsets lengths arena) ⌝ }
 {
     if spans::fits(marks, offsets, lengths, arena) {
         let seen = spans::scan(marks, offsets, lengths, arena);
@@ -40,7 +41,7 @@ pub fn len(marks: &[u8], offsets: &[u16], lengths: &[u8], arena: &[u8]) -> Count
 
 // Whether there is no key.
 pub fn is_empty(marks: &[u8], offsets: &[u16], lengths: &[u8], arena: &[u8]) -> Emptiness
-    ensures { λ r. ⌜ emptinessNumbers r ≡ isEmptyOf sets (setMemory (now (marks .entry)) (now (offsets .entry)) (now (lengths .entry)) (now (arena .entry))) ⌝ }
+    ensures { λ r. ⌜ emptinessNumbers r ≡ isEmptyOf sets (before marks offsets lengths arena) ⌝ }
 {
     let count = len(marks, offsets, lengths, arena);
     match count {
@@ -56,7 +57,7 @@ pub fn is_empty(marks: &[u8], offsets: &[u16], lengths: &[u8], arena: &[u8]) -> 
 
 // Whether so many slots are not live.
 pub fn reserve(marks: &[u8], offsets: &[u16], lengths: &[u8], arena: &[u8], asked: u64) -> Reserved
-    ensures { λ r. ⌜ reservedNumbers r ≡ reserveOf sets (setMemory (now (marks .entry)) (now (offsets .entry)) (now (lengths .entry)) (now (arena .entry))) asked ⌝ }
+    ensures { λ r. ⌜ reservedNumbers r ≡ reserveOf sets (before marks offsets lengths arena) asked ⌝ }
 {
     let count = len(marks, offsets, lengths, arena);
     match count {
@@ -72,7 +73,7 @@ pub fn reserve(marks: &[u8], offsets: &[u16], lengths: &[u8], arena: &[u8], aske
 
 // The stored key's offset and length where the key is there, with its slot and the examined number.
 pub fn get(marks: &[u8], offsets: &[u16], lengths: &[u8], arena: &[u8], key: &[u8]) -> Spanned
-    ensures { λ r. ⌜ spannedNumbers r ≡ spanOf (setMemory (now (marks .entry)) (now (offsets .entry)) (now (lengths .entry)) (now (arena .entry))) (now (key .entry)) ⌝ }
+    ensures { λ r. ⌜ spannedNumbers r ≡ spanOf (before marks offsets lengths arena) (now (key .entry)) ⌝ }
 {
     let seen = spans::probe(marks, offsets, lengths, arena, key);
     match seen {
@@ -95,7 +96,7 @@ pub fn contains(
     arena: &[u8],
     key: &[u8],
 ) -> Contained
-    ensures { λ r. ⌜ containedNumbers r ≡ containsOf sets (setMemory (now (marks .entry)) (now (offsets .entry)) (now (lengths .entry)) (now (arena .entry))) (now (key .entry)) ⌝ }
+    ensures { λ r. ⌜ containedNumbers r ≡ containsOf sets (before marks offsets lengths arena) (now (key .entry)) ⌝ }
 {
     let seen = spans::probe(marks, offsets, lengths, arena, key);
     match seen {

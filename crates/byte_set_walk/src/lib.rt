@@ -4,7 +4,8 @@ ghost use Prim.Native.Nat.{_+_, _≤_};
 ghost use lib.ListN.{length};
 ghost use Rattle.kinds.specs.Told.{told};
 ghost use Rattle.lent.specs.Moved.{movedOn};
-ghost use Rattle.spans.specs.Kinds.{setMemory, setPaceOf, setStepOf};
+ghost use Rattle.spans.specs.Kinds.{setPaceOf, setStepOf};
+ghost use Rattle.spans.specs.Sets.{before};
 ghost use Rattle.byte_set_walk.specs.Numbers.{refusedNumbers, stepNumbers};
 use answers::Refusal;
 use kinds::Next;
@@ -55,7 +56,7 @@ fn pace(
     slots: usize,
 ) -> Stride
     requires { ⌜ (at + slots ≤ length (now marks)) × (length (now offsets) ≡ length (now marks)) × (length (now lengths) ≡ length (now marks)) ⌝ }
-    ensures { λ r. ⌜ stepNumbers r ≡ setPaceOf (setMemory (now (marks .entry)) (now (offsets .entry)) (now (lengths .entry)) (now (arena .entry))) at slots ⌝ }
+    ensures { λ r. ⌜ stepNumbers r ≡ setPaceOf (before marks offsets lengths arena) at slots ⌝ }
 {
     let next = next_live(marks, offsets, lengths, arena, at, at + slots);
     match next {
@@ -94,7 +95,7 @@ impl Walk {
         arena: &[u8],
         budget: u64,
     ) -> Stride
-        ensures { λ r. ⌜ stepNumbers r ≡ setStepOf (setMemory (now (marks .entry)) (now (offsets .entry)) (now (lengths .entry)) (now (arena .entry))) (self .at) budget ⌝ }
+        ensures { λ r. ⌜ stepNumbers r ≡ setStepOf (before marks offsets lengths arena) (self .at) budget ⌝ }
     {
         let at = self.at;
         if fits(marks, offsets, lengths, arena) {
@@ -126,7 +127,7 @@ impl Walk {
         arena: &[u8],
         budget: u64,
     ) -> Stride
-        ensures { λ r. ⌜ told (stepNumbers r) (now (self .exit) .at) ≡ movedOn (setStepOf (setMemory (now (marks .entry)) (now (offsets .entry)) (now (lengths .entry)) (now (arena .entry))) (now (self .entry) .at) budget) ⌝ }
+        ensures { λ r. ⌜ told (stepNumbers r) (now (self .exit) .at) ≡ movedOn (setStepOf (before marks offsets lengths arena) (now (self .entry) .at) budget) ⌝ }
     {
         let r = self.step(marks, offsets, lengths, arena, budget);
         *self = r.walk;

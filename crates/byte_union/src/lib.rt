@@ -7,8 +7,9 @@ ghost use Rattle.model.specs.Calls.{rule};
 ghost use Rattle.answers.specs.Numbers.{outcomeNumbers};
 ghost use Rattle.kinds.specs.Calls.{unionOf};
 ghost use Rattle.kinds.specs.Told.{told};
-ghost use Rattle.spans.specs.Memory.{spansOf, fitting, usedOf};
-ghost use Rattle.spans.specs.Kinds.{maps, mapMemory};
+ghost use Rattle.spans.specs.Memory.{spansNow, spansBefore, spansAfter, fitting, usedOf};
+ghost use Rattle.spans.specs.Kinds.{maps};
+ghost use Rattle.spans.specs.Maps.{mapNow, before, after};
 ghost use Rattle.byte_union.specs.Needs.{neededBy, lackAt, lacksOf, livesOf, planned, roomOf, planOf};
 ghost use Rattle.byte_union.specs.Stores.{Ready, Storable, pairAt, pairsOf, slotStored, allStored};
 use answers::Outcome;
@@ -69,8 +70,8 @@ fn lack(
     right_arena: &[u8],
     i: usize,
 ) -> Needed
-    requires { ⌜ (fitting (spansOf (now marks) (now offsets) (now lengths) (now arena)) ≡ true) × (fitting (spansOf (now «right_marks») (now «right_offsets») (now «right_lengths») (now «right_arena»)) ≡ true) × (i < length (now «right_marks»)) ⌝ }
-    ensures { λ r. ⌜ (r ≡ lackAt (spansOf (now (marks .entry)) (now (offsets .entry)) (now (lengths .entry)) (now (arena .entry))) (spansOf (now («right_marks» .entry)) (now («right_offsets» .entry)) (now («right_lengths» .entry)) (now («right_arena» .entry))) i) × (r .slots ≤ 1) × (r .bytes ≤ 255) ⌝ }
+    requires { ⌜ (fitting (spansNow marks offsets lengths arena) ≡ true) × (fitting (spansNow «right_marks» «right_offsets» «right_lengths» «right_arena») ≡ true) × (i < length (now «right_marks»)) ⌝ }
+    ensures { λ r. ⌜ (r ≡ lackAt (spansBefore marks offsets lengths arena) (spansBefore «right_marks» «right_offsets» «right_lengths» «right_arena») i) × (r .slots ≤ 1) × (r .bytes ≤ 255) ⌝ }
 {
     if mark_at(right_marks, right_offsets, right_lengths, right_arena, i) == 1 {
         let start = offset_at(right_offsets, i) as usize;
@@ -93,8 +94,8 @@ fn lacks(
     right_lengths: &[u8],
     right_arena: &[u8],
 ) -> Needed
-    requires { ⌜ (fitting (spansOf (now marks) (now offsets) (now lengths) (now arena)) ≡ true) × (fitting (spansOf (now «right_marks») (now «right_offsets») (now «right_lengths») (now «right_arena»)) ≡ true) ⌝ }
-    ensures { λ r. ⌜ r ≡ lacksOf (spansOf (now (marks .entry)) (now (offsets .entry)) (now (lengths .entry)) (now (arena .entry))) (spansOf (now («right_marks» .entry)) (now («right_offsets» .entry)) (now («right_lengths» .entry)) (now («right_arena» .entry))) (length (now («right_marks» .entry))) ⌝ }
+    requires { ⌜ (fitting (spansNow marks offsets lengths arena) ≡ true) × (fitting (spansNow «right_marks» «right_offsets» «right_lengths» «right_arena») ≡ true) ⌝ }
+    ensures { λ r. ⌜ r ≡ lacksOf (spansBefore marks offsets lengths arena) (spansBefore «right_marks» «right_offsets» «right_lengths» «right_arena») (length (now («right_marks» .entry))) ⌝ }
 {
     let mut slots = 0;
     let mut bytes = 0;
@@ -142,8 +143,8 @@ fn room(
     right_lengths: &[u8],
     right_arena: &[u8],
 ) -> Planned
-    requires { ⌜ (fitting (spansOf (now marks) (now offsets) (now lengths) (now arena)) ≡ true) × (fitting (spansOf (now «right_marks») (now «right_offsets») (now «right_lengths») (now «right_arena»)) ≡ true) ⌝ }
-    ensures { λ r. ⌜ planned r ≡ roomOf (spansOf (now (marks .entry)) (now (offsets .entry)) (now (lengths .entry)) (now (arena .entry))) (spansOf (now («right_marks» .entry)) (now («right_offsets» .entry)) (now («right_lengths» .entry)) (now («right_arena» .entry))) ⌝ }
+    requires { ⌜ (fitting (spansNow marks offsets lengths arena) ≡ true) × (fitting (spansNow «right_marks» «right_offsets» «right_lengths» «right_arena») ≡ true) ⌝ }
+    ensures { λ r. ⌜ planned r ≡ roomOf (spansBefore marks offsets lengths arena) (spansBefore «right_marks» «right_offsets» «right_lengths» «right_arena») ⌝ }
 {
     let found = survey(marks, offsets, lengths, arena);
     let Surveyed::Used(used) = found else {
@@ -185,7 +186,7 @@ fn plan(
     right_values: &[u64],
     right_arena: &[u8],
 ) -> Planned
-    ensures { λ r. ⌜ planned r ≡ planOf (mapMemory (now (marks .entry)) (now (offsets .entry)) (now (lengths .entry)) (now (values .entry)) (now (arena .entry))) (mapMemory (now («right_marks» .entry)) (now («right_offsets» .entry)) (now («right_lengths» .entry)) (now («right_values» .entry)) (now («right_arena» .entry))) ⌝ }
+    ensures { λ r. ⌜ planned r ≡ planOf (before marks offsets lengths values arena) (before «right_marks» «right_offsets» «right_lengths» «right_values» «right_arena») ⌝ }
 {
     if map_fits(marks, offsets, lengths, values, arena) {
         if map_fits(
@@ -222,8 +223,8 @@ fn store(
     value: u64,
     used: usize,
 ) -> usize
-    requires { ⌜ Storable (mapMemory (now marks) (now offsets) (now lengths) (now values) (now arena)) used (now key) value ⌝ }
-    ensures { λ r. ⌜ (mapMemory (now (marks .exit)) (now (offsets .exit)) (now (lengths .exit)) (now (values .exit)) (now (arena .exit)) ≡ rule maps (mapMemory (now (marks .entry)) (now (offsets .entry)) (now (lengths .entry)) (now (values .entry)) (now (arena .entry))) (now (key .entry)) value) × (r ≡ usedOf (spansOf (now (marks .exit)) (now (offsets .exit)) (now (lengths .exit)) (now (arena .exit)))) ⌝ }
+    requires { ⌜ Storable (mapNow marks offsets lengths values arena) used (now key) value ⌝ }
+    ensures { λ r. ⌜ (after marks offsets lengths values arena ≡ rule maps (before marks offsets lengths values arena) (now (key .entry)) value) × (r ≡ usedOf (spansAfter marks offsets lengths arena)) ⌝ }
 {
     let seen = probe(marks, offsets, lengths, arena, key);
     match seen {
@@ -256,8 +257,8 @@ fn store_slot(
     i: usize,
     used: usize,
 ) -> usize
-    requires { ⌜ Ready (mapMemory (now marks) (now offsets) (now lengths) (now values) (now arena)) used (pairAt (mapMemory (now «right_marks») (now «right_offsets») (now «right_lengths») (now «right_values») (now «right_arena»)) i) × (i < length (now «right_values»)) × (i < length (now «right_marks»)) × (length (now «right_offsets») ≡ length (now «right_marks»)) × (length (now «right_lengths») ≡ length (now «right_marks»)) ⌝ }
-    ensures { λ r. ⌜ (mapMemory (now (marks .exit)) (now (offsets .exit)) (now (lengths .exit)) (now (values .exit)) (now (arena .exit)) ≡ slotStored (mapMemory (now (marks .entry)) (now (offsets .entry)) (now (lengths .entry)) (now (values .entry)) (now (arena .entry))) (mapMemory (now («right_marks» .entry)) (now («right_offsets» .entry)) (now («right_lengths» .entry)) (now («right_values» .entry)) (now («right_arena» .entry))) i) × (r ≡ usedOf (spansOf (now (marks .exit)) (now (offsets .exit)) (now (lengths .exit)) (now (arena .exit)))) ⌝ }
+    requires { ⌜ Ready (mapNow marks offsets lengths values arena) used (pairAt (mapNow «right_marks» «right_offsets» «right_lengths» «right_values» «right_arena») i) × (i < length (now «right_values»)) × (i < length (now «right_marks»)) × (length (now «right_offsets») ≡ length (now «right_marks»)) × (length (now «right_lengths») ≡ length (now «right_marks»)) ⌝ }
+    ensures { λ r. ⌜ (after marks offsets lengths values arena ≡ slotStored (before marks offsets lengths values arena) (before «right_marks» «right_offsets» «right_lengths» «right_values» «right_arena») i) × (r ≡ usedOf (spansAfter marks offsets lengths arena)) ⌝ }
 {
     if mark_at(right_marks, right_offsets, right_lengths, right_arena, i) == 1 {
         let start = offset_at(right_offsets, i) as usize;
@@ -291,8 +292,8 @@ fn store_all(
     right_arena: &[u8],
     used: usize,
 )
-    requires { ⌜ Ready (mapMemory (now marks) (now offsets) (now lengths) (now values) (now arena)) used (pairsOf (mapMemory (now «right_marks») (now «right_offsets») (now «right_lengths») (now «right_values») (now «right_arena»)) (length (now «right_marks»))) × (length (now «right_values») ≡ length (now «right_marks»)) × (length (now «right_marks») ≤ 4096) × (length (now «right_offsets») ≡ length (now «right_marks»)) × (length (now «right_lengths») ≡ length (now «right_marks»)) ⌝ }
-    ensures { λ r. ⌜ mapMemory (now (marks .exit)) (now (offsets .exit)) (now (lengths .exit)) (now (values .exit)) (now (arena .exit)) ≡ allStored (mapMemory (now (marks .entry)) (now (offsets .entry)) (now (lengths .entry)) (now (values .entry)) (now (arena .entry))) (mapMemory (now («right_marks» .entry)) (now («right_offsets» .entry)) (now («right_lengths» .entry)) (now («right_values» .entry)) (now («right_arena» .entry))) (length (now («right_marks» .entry))) ⌝ }
+    requires { ⌜ Ready (mapNow marks offsets lengths values arena) used (pairsOf (mapNow «right_marks» «right_offsets» «right_lengths» «right_values» «right_arena») (length (now «right_marks»))) × (length (now «right_values») ≡ length (now «right_marks»)) × (length (now «right_marks») ≤ 4096) × (length (now «right_offsets») ≡ length (now «right_marks»)) × (length (now «right_lengths») ≡ length (now «right_marks»)) ⌝ }
+    ensures { λ r. ⌜ after marks offsets lengths values arena ≡ allStored (before marks offsets lengths values arena) (before «right_marks» «right_offsets» «right_lengths» «right_values» «right_arena») (length (now («right_marks» .entry))) ⌝ }
 {
     let mut end = used;
     let mut i = 0;
@@ -329,8 +330,8 @@ fn carry_out(
     right_values: &[u64],
     right_arena: &[u8],
 ) -> Outcome
-    requires { ⌜ planned way ≡ planOf (mapMemory (now marks) (now offsets) (now lengths) (now values) (now arena)) (mapMemory (now «right_marks») (now «right_offsets») (now «right_lengths») (now «right_values») (now «right_arena»)) ⌝ }
-    ensures { λ r. ⌜ told (outcomeNumbers r) (mapMemory (now (marks .exit)) (now (offsets .exit)) (now (lengths .exit)) (now (values .exit)) (now (arena .exit))) ≡ unionOf maps (mapMemory (now (marks .entry)) (now (offsets .entry)) (now (lengths .entry)) (now (values .entry)) (now (arena .entry))) (mapMemory (now («right_marks» .entry)) (now («right_offsets» .entry)) (now («right_lengths» .entry)) (now («right_values» .entry)) (now («right_arena» .entry))) ⌝ }
+    requires { ⌜ planned way ≡ planOf (mapNow marks offsets lengths values arena) (mapNow «right_marks» «right_offsets» «right_lengths» «right_values» «right_arena») ⌝ }
+    ensures { λ r. ⌜ told (outcomeNumbers r) (after marks offsets lengths values arena) ≡ unionOf maps (before marks offsets lengths values arena) (before «right_marks» «right_offsets» «right_lengths» «right_values» «right_arena») ⌝ }
 {
     match way {
         Planned::Go(used) => {
@@ -366,7 +367,7 @@ pub fn union_prefer_right(
     right_values: &[u64],
     right_arena: &[u8],
 ) -> Outcome
-    ensures { λ r. ⌜ told (outcomeNumbers r) (mapMemory (now (marks .exit)) (now (offsets .exit)) (now (lengths .exit)) (now (values .exit)) (now (arena .exit))) ≡ unionOf maps (mapMemory (now (marks .entry)) (now (offsets .entry)) (now (lengths .entry)) (now (values .entry)) (now (arena .entry))) (mapMemory (now («right_marks» .entry)) (now («right_offsets» .entry)) (now («right_lengths» .entry)) (now («right_values» .entry)) (now («right_arena» .entry))) ⌝ }
+    ensures { λ r. ⌜ told (outcomeNumbers r) (after marks offsets lengths values arena) ≡ unionOf maps (before marks offsets lengths values arena) (before «right_marks» «right_offsets» «right_lengths» «right_values» «right_arena») ⌝ }
 {
     carry_out(
         plan(

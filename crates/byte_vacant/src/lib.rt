@@ -2,7 +2,8 @@
 ghost use mathlib.Core.Path.{_≡_};
 ghost use Rattle.kinds.specs.Calls.{standingOf};
 ghost use Rattle.kinds.specs.Told.{told};
-ghost use Rattle.spans.specs.Kinds.{maps, mapMemory};
+ghost use Rattle.spans.specs.Kinds.{maps};
+ghost use Rattle.spans.specs.Maps.{before, after};
 ghost use Rattle.byte_vacant.specs.Numbers.{standingNumbers};
 ghost use Rattle.byte_vacant.specs.Planning.{freshBy};
 use answers::Refusal;
@@ -59,7 +60,7 @@ impl Vacant {
         key: &[u8],
         value: u64,
     ) -> Standing
-        ensures { λ r. ⌜ told (standingNumbers r) (mapMemory (now (marks .exit)) (now (offsets .exit)) (now (lengths .exit)) (now (values .exit)) (now (arena .exit))) ≡ standingOf maps (mapMemory (now (marks .entry)) (now (offsets .entry)) (now (lengths .entry)) (now (values .entry)) (now (arena .entry))) (self .slot) (now (key .entry)) value ⌝ }
+        ensures { λ r. ⌜ told (standingNumbers r) (after marks offsets lengths values arena) ≡ standingOf maps (before marks offsets lengths values arena) (self .slot) (now (key .entry)) value ⌝ }
     {
         let slot = self.slot;
         let plan = byte_map::place(marks, offsets, lengths, values, arena, key);

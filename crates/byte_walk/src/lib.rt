@@ -4,7 +4,8 @@ ghost use Prim.Native.Nat.{_+_, _≤_};
 ghost use lib.ListN.{length};
 ghost use Rattle.kinds.specs.Told.{told};
 ghost use Rattle.lent.specs.Moved.{movedOn};
-ghost use Rattle.spans.specs.Kinds.{mapMemory, paceOf, stepOf};
+ghost use Rattle.spans.specs.Kinds.{paceOf, stepOf};
+ghost use Rattle.spans.specs.Maps.{before};
 ghost use Rattle.byte_walk.specs.Numbers.{refusedNumbers, stepNumbers};
 use answers::Refusal;
 use byte_reads::map_fits;
@@ -56,7 +57,7 @@ fn pace(
     slots: usize,
 ) -> Stride
     requires { ⌜ (at + slots ≤ length (now marks)) × (length (now offsets) ≡ length (now marks)) × (length (now lengths) ≡ length (now marks)) × (length (now values) ≡ length (now marks)) ⌝ }
-    ensures { λ r. ⌜ stepNumbers r ≡ paceOf (mapMemory (now (marks .entry)) (now (offsets .entry)) (now (lengths .entry)) (now (values .entry)) (now (arena .entry))) at slots ⌝ }
+    ensures { λ r. ⌜ stepNumbers r ≡ paceOf (before marks offsets lengths values arena) at slots ⌝ }
 {
     let next = next_live(marks, offsets, lengths, arena, at, at + slots);
     match next {
@@ -96,7 +97,7 @@ impl Walk {
         arena: &[u8],
         budget: u64,
     ) -> Stride
-        ensures { λ r. ⌜ stepNumbers r ≡ stepOf (mapMemory (now (marks .entry)) (now (offsets .entry)) (now (lengths .entry)) (now (values .entry)) (now (arena .entry))) (self .at) budget ⌝ }
+        ensures { λ r. ⌜ stepNumbers r ≡ stepOf (before marks offsets lengths values arena) (self .at) budget ⌝ }
     {
         let at = self.at;
         if map_fits(marks, offsets, lengths, values, arena) {
@@ -129,7 +130,7 @@ impl Walk {
         arena: &[u8],
         budget: u64,
     ) -> Stride
-        ensures { λ r. ⌜ told (stepNumbers r) (now (self .exit) .at) ≡ movedOn (stepOf (mapMemory (now (marks .entry)) (now (offsets .entry)) (now (lengths .entry)) (now (values .entry)) (now (arena .entry))) (now (self .entry) .at) budget) ⌝ }
+        ensures { λ r. ⌜ told (stepNumbers r) (now (self .exit) .at) ≡ movedOn (stepOf (before marks offsets lengths values arena) (now (self .entry) .at) budget) ⌝ }
     {
         let r = self.step(marks, offsets, lengths, values, arena, budget);
         *self = r.walk;

@@ -2,9 +2,8 @@
 ghost use mathlib.Core.Path.{_≡_};
 ghost use Rattle.answers.specs.Numbers.{outcomeNumbers};
 ghost use Rattle.kinds.specs.Told.{told};
-ghost use Rattle.ints.specs.Memory.{memory};
 ghost use Rattle.kinds.specs.Calls.{copyOf};
-ghost use Rattle.ints.specs.Maps.{maps};
+ghost use Rattle.ints.specs.Maps.{maps, before, after};
 use answers::Outcome;
 use answers::Refusal;
 use arrays::copy_bytes;
@@ -19,7 +18,7 @@ pub fn copy(
     keys: &[u64],
     values: &[u64],
 ) -> Outcome
-    ensures { λ r. ⌜ told (outcomeNumbers r) (memory (now («to_marks» .exit)) (now («to_keys» .exit)) (now («to_values» .exit))) ≡ copyOf maps (memory (now («to_marks» .entry)) (now («to_keys» .entry)) (now («to_values» .entry))) (memory (now (marks .entry)) (now (keys .entry)) (now (values .entry))) ⌝ }
+    ensures { λ r. ⌜ told (outcomeNumbers r) (after «to_marks» «to_keys» «to_values») ≡ copyOf maps (before «to_marks» «to_keys» «to_values») (before marks keys values) ⌝ }
 {
     if ints::map_fits(to_marks, to_keys, to_values) {
         if ints::map_fits(marks, keys, values) {

@@ -1,13 +1,12 @@
 // The integer map's entries: an entry answer, and its own calls, which go on by the handle in it; the key is given again each time.
 ghost use mathlib.Core.Path.{_≡_};
 ghost use lib.ListN.{length};
-ghost use Rattle.ints.specs.Memory.{memory};
 ghost use Rattle.kinds.specs.Told.{told};
 ghost use Rattle.int_vacant.specs.Numbers.{standingNumbers};
 ghost use Rattle.int_entry.specs.Numbers.{enteredNumbers};
 ghost use Rattle.int_entry.specs.Calls.{placeOf, handleOf};
 ghost use Rattle.kinds.specs.Calls.{entryOf, orInsertOf, insertEntryOf};
-ghost use Rattle.ints.specs.Maps.{maps};
+ghost use Rattle.ints.specs.Maps.{maps, before, after};
 use answers::Refusal;
 use kinds::Probed;
 
@@ -29,7 +28,7 @@ pub enum Entered {
 
 // Where a key stands or would go; refused exactly as insert would be.
 pub fn entry(marks: &[u8], keys: &[u64], values: &[u64], key: u64) -> Entered
-    ensures { λ r. ⌜ enteredNumbers r ≡ entryOf maps (memory (now (marks .entry)) (now (keys .entry)) (now (values .entry))) key ⌝ }
+    ensures { λ r. ⌜ enteredNumbers r ≡ entryOf maps (before marks keys values) key ⌝ }
 {
     let seen = ints::seek(marks, keys, values, key);
     match seen {
@@ -60,7 +59,7 @@ impl Entered {
         key: u64,
         default: u64,
     ) -> Standing
-        ensures { λ r. ⌜ told (standingNumbers r) (memory (now (marks .exit)) (now (keys .exit)) (now (values .exit))) ≡ orInsertOf maps (memory (now (marks .entry)) (now (keys .entry)) (now (values .entry))) (handleOf (length (now (marks .entry))) self) key default ⌝ }
+        ensures { λ r. ⌜ told (standingNumbers r) (after marks keys values) ≡ orInsertOf maps (before marks keys values) (handleOf (length (now (marks .entry))) self) key default ⌝ }
     {
         let Entered::Occupied(handle, _, _) = self else {
             return self.place(marks.len())
@@ -82,7 +81,7 @@ impl Entered {
         key: u64,
         value: u64,
     ) -> Standing
-        ensures { λ r. ⌜ told (standingNumbers r) (memory (now (marks .exit)) (now (keys .exit)) (now (values .exit))) ≡ insertEntryOf maps (memory (now (marks .entry)) (now (keys .entry)) (now (values .entry))) (handleOf (length (now (marks .entry))) self) key value ⌝ }
+        ensures { λ r. ⌜ told (standingNumbers r) (after marks keys values) ≡ insertEntryOf maps (before marks keys values) (handleOf (length (now (marks .entry))) self) key value ⌝ }
     {
         let Entered::Occupied(handle, _, _) = self else {
             return self.place(marks.len())

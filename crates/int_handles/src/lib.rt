@@ -2,8 +2,7 @@
 ghost use mathlib.Core.Path.{_≡_};
 ghost use Rattle.model.specs.Calls.{gripOn};
 ghost use Rattle.kinds.specs.Marks.{cell};
-ghost use Rattle.ints.specs.Memory.{memory};
-ghost use Rattle.ints.specs.Maps.{maps};
+ghost use Rattle.ints.specs.Maps.{maps, before, after};
 ghost use Rattle.kinds.specs.Told.{told};
 ghost use Rattle.answers.specs.Said.{heldSaid};
 ghost use Rattle.int_handles.specs.Numbers.{heldNumbers, swappedNumbers, takenNumbers, takenEntryNumbers};
@@ -58,7 +57,7 @@ fn held_in(mark: u8, held: u64, value: u64, slot: usize, key: u64) -> Held
 
 // What an occupied handle of this slot holds for the key: the value, or a refusal.
 fn grip(marks: &[u8], keys: &[u64], values: &[u64], slot: usize, key: u64) -> Held
-    ensures { λ r. ⌜ heldNumbers r ≡ heldOf maps (memory (now (marks .entry)) (now (keys .entry)) (now (values .entry))) slot key ⌝ }
+    ensures { λ r. ⌜ heldNumbers r ≡ heldOf maps (before marks keys values) slot key ⌝ }
 {
     if ints::map_fits(marks, keys, values) {
         if slot < marks.len() {
@@ -72,7 +71,7 @@ fn grip(marks: &[u8], keys: &[u64], values: &[u64], slot: usize, key: u64) -> He
 impl Occupied {
     // The value in the slot.
     pub fn get(self, marks: &[u8], keys: &[u64], values: &[u64], key: u64) -> Held
-        ensures { λ r. ⌜ heldNumbers r ≡ heldOf maps (memory (now (marks .entry)) (now (keys .entry)) (now (values .entry))) (self .slot) key ⌝ }
+        ensures { λ r. ⌜ heldNumbers r ≡ heldOf maps (before marks keys values) (self .slot) key ⌝ }
     {
         grip(marks, keys, values, self.slot, key)
     }
@@ -86,7 +85,7 @@ impl Occupied {
         key: u64,
         value: u64,
     ) -> Swapped
-        ensures { λ r. ⌜ told (swappedNumbers r) (memory (now (marks .exit)) (now (keys .exit)) (now (values .exit))) ≡ setOf maps (memory (now (marks .entry)) (now (keys .entry)) (now (values .entry))) (self .slot) key value ⌝ }
+        ensures { λ r. ⌜ told (swappedNumbers r) (after marks keys values) ≡ setOf maps (before marks keys values) (self .slot) key value ⌝ }
     {
         let slot = self.slot;
         let held = grip(marks, keys, values, slot, key);
@@ -101,7 +100,7 @@ impl Occupied {
 
     // Frees the slot; its value is answered.
     pub fn remove(self, marks: &mut [u8], keys: &mut [u64], values: &mut [u64], key: u64) -> Taken
-        ensures { λ r. ⌜ told (takenNumbers r) (memory (now (marks .exit)) (now (keys .exit)) (now (values .exit))) ≡ takenOf maps (memory (now (marks .entry)) (now (keys .entry)) (now (values .entry))) (self .slot) key ⌝ }
+        ensures { λ r. ⌜ told (takenNumbers r) (after marks keys values) ≡ takenOf maps (before marks keys values) (self .slot) key ⌝ }
     {
         let slot = self.slot;
         let held = grip(marks, keys, values, slot, key);
@@ -124,7 +123,7 @@ impl Occupied {
         values: &mut [u64],
         key: u64,
     ) -> TakenEntry
-        ensures { λ r. ⌜ told (takenEntryNumbers r) (memory (now (marks .exit)) (now (keys .exit)) (now (values .exit))) ≡ removeEntryOf (memory (now (marks .entry)) (now (keys .entry)) (now (values .entry))) (self .slot) key ⌝ }
+        ensures { λ r. ⌜ told (takenEntryNumbers r) (after marks keys values) ≡ removeEntryOf (before marks keys values) (self .slot) key ⌝ }
     {
         let taken = self.remove(marks, keys, values, key);
         match taken {

@@ -1,11 +1,10 @@
 // The integer map: u64 keys and values in lent slot arrays, and the calls that store. Each contract is one equation with a definition of the theory at this store.
 ghost use mathlib.Core.Path.{_≡_};
 ghost use Rattle.answers.specs.Numbers.{outcomeNumbers, insertedNumbers, removedNumbers};
-ghost use Rattle.ints.specs.Memory.{memory};
 ghost use Rattle.kinds.specs.Told.{told};
 ghost use Rattle.int_map.specs.Calls.{insertOf};
 ghost use Rattle.kinds.specs.Calls.{makeOf, removeOf};
-ghost use Rattle.ints.specs.Maps.{maps};
+ghost use Rattle.ints.specs.Maps.{maps, before, after};
 use answers::Inserted;
 use answers::Outcome;
 use answers::Refusal;
@@ -16,7 +15,7 @@ use kinds::Probed;
 
 // Makes an empty map of the lent arrays.
 pub fn make(marks: &mut [u8], keys: &mut [u64], values: &mut [u64]) -> Outcome
-    ensures { λ r. ⌜ told (outcomeNumbers r) (memory (now (marks .exit)) (now (keys .exit)) (now (values .exit))) ≡ makeOf maps (memory (now (marks .entry)) (now (keys .entry)) (now (values .entry))) ⌝ }
+    ensures { λ r. ⌜ told (outcomeNumbers r) (after marks keys values) ≡ makeOf maps (before marks keys values) ⌝ }
 {
     if ints::map_fits(marks, keys, values) {
         clear_bytes(marks);
@@ -29,7 +28,7 @@ pub fn make(marks: &mut [u8], keys: &mut [u64], values: &mut [u64]) -> Outcome
 
 // Empties a map: every slot becomes never used.
 pub fn clear(marks: &mut [u8], keys: &mut [u64], values: &mut [u64]) -> Outcome
-    ensures { λ r. ⌜ told (outcomeNumbers r) (memory (now (marks .exit)) (now (keys .exit)) (now (values .exit))) ≡ makeOf maps (memory (now (marks .entry)) (now (keys .entry)) (now (values .entry))) ⌝ }
+    ensures { λ r. ⌜ told (outcomeNumbers r) (after marks keys values) ≡ makeOf maps (before marks keys values) ⌝ }
 {
     make(marks, keys, values)
 }
@@ -42,7 +41,7 @@ pub fn insert(
     key: u64,
     value: u64,
 ) -> Inserted
-    ensures { λ r. ⌜ told (insertedNumbers r) (memory (now (marks .exit)) (now (keys .exit)) (now (values .exit))) ≡ insertOf (memory (now (marks .entry)) (now (keys .entry)) (now (values .entry))) key value ⌝ }
+    ensures { λ r. ⌜ told (insertedNumbers r) (after marks keys values) ≡ insertOf (before marks keys values) key value ⌝ }
 {
     let seen = ints::seek(marks, keys, values, key);
     match seen {
@@ -64,7 +63,7 @@ pub fn insert(
 
 // Takes a key out: its slot is freed, its words become 0.
 pub fn remove(marks: &mut [u8], keys: &mut [u64], values: &mut [u64], key: u64) -> Removed
-    ensures { λ r. ⌜ told (removedNumbers r) (memory (now (marks .exit)) (now (keys .exit)) (now (values .exit))) ≡ removeOf maps (memory (now (marks .entry)) (now (keys .entry)) (now (values .entry))) key ⌝ }
+    ensures { λ r. ⌜ told (removedNumbers r) (after marks keys values) ≡ removeOf maps (before marks keys values) key ⌝ }
 {
     let seen = ints::seek(marks, keys, values, key);
     match seen {

@@ -1,9 +1,8 @@
 // The calls of an integer map that only read. Each contract is one equation with a definition of the theory at this store.
 ghost use mathlib.Core.Path.{_≡_};
 ghost use Rattle.answers.specs.Numbers.{countedNumbers, emptinessNumbers, reservedNumbers, gotNumbers, containedNumbers};
-ghost use Rattle.ints.specs.Memory.{memory};
 ghost use Rattle.kinds.specs.Calls.{capacityOf, lenOf, isEmptyOf, reserveOf, getOf, containsOf};
-ghost use Rattle.ints.specs.Maps.{maps};
+ghost use Rattle.ints.specs.Maps.{maps, before};
 use answers::Contained;
 use answers::Counted;
 use answers::Emptiness;
@@ -15,7 +14,7 @@ use kinds::Scanned;
 
 // The number of slots.
 pub fn capacity(marks: &[u8], keys: &[u64], values: &[u64]) -> Counted
-    ensures { λ r. ⌜ countedNumbers r ≡ capacityOf maps (memory (now (marks .entry)) (now (keys .entry)) (now (values .entry))) ⌝ }
+    ensures { λ r. ⌜ countedNumbers r ≡ capacityOf maps (before marks keys values) ⌝ }
 {
     if ints::map_fits(marks, keys, values) {
         return Counted::Count(marks.len());
@@ -25,7 +24,7 @@ pub fn capacity(marks: &[u8], keys: &[u64], values: &[u64]) -> Counted
 
 // The number of keys.
 pub fn len(marks: &[u8], keys: &[u64], values: &[u64]) -> Counted
-    ensures { λ r. ⌜ countedNumbers r ≡ lenOf maps (memory (now (marks .entry)) (now (keys .entry)) (now (values .entry))) ⌝ }
+    ensures { λ r. ⌜ countedNumbers r ≡ lenOf maps (before marks keys values) ⌝ }
 {
     if ints::map_fits(marks, keys, values) {
         let seen = ints::scan(marks);
@@ -39,7 +38,7 @@ pub fn len(marks: &[u8], keys: &[u64], values: &[u64]) -> Counted
 
 // Whether there is no key.
 pub fn is_empty(marks: &[u8], keys: &[u64], values: &[u64]) -> Emptiness
-    ensures { λ r. ⌜ emptinessNumbers r ≡ isEmptyOf maps (memory (now (marks .entry)) (now (keys .entry)) (now (values .entry))) ⌝ }
+    ensures { λ r. ⌜ emptinessNumbers r ≡ isEmptyOf maps (before marks keys values) ⌝ }
 {
     let count = len(marks, keys, values);
     match count {
@@ -55,7 +54,7 @@ pub fn is_empty(marks: &[u8], keys: &[u64], values: &[u64]) -> Emptiness
 
 // Whether so many slots are not live.
 pub fn reserve(marks: &[u8], keys: &[u64], values: &[u64], asked: u64) -> Reserved
-    ensures { λ r. ⌜ reservedNumbers r ≡ reserveOf maps (memory (now (marks .entry)) (now (keys .entry)) (now (values .entry))) asked ⌝ }
+    ensures { λ r. ⌜ reservedNumbers r ≡ reserveOf maps (before marks keys values) asked ⌝ }
 {
     let count = len(marks, keys, values);
     match count {
@@ -71,7 +70,7 @@ pub fn reserve(marks: &[u8], keys: &[u64], values: &[u64], asked: u64) -> Reserv
 
 // The value of a key, with its slot and the examined number.
 pub fn get(marks: &[u8], keys: &[u64], values: &[u64], key: u64) -> Got
-    ensures { λ r. ⌜ gotNumbers r ≡ getOf maps (memory (now (marks .entry)) (now (keys .entry)) (now (values .entry))) key ⌝ }
+    ensures { λ r. ⌜ gotNumbers r ≡ getOf maps (before marks keys values) key ⌝ }
 {
     let seen = ints::seek(marks, keys, values, key);
     match seen {
@@ -84,7 +83,7 @@ pub fn get(marks: &[u8], keys: &[u64], values: &[u64], key: u64) -> Got
 
 // Whether a key is there, with the examined number.
 pub fn contains_key(marks: &[u8], keys: &[u64], values: &[u64], key: u64) -> Contained
-    ensures { λ r. ⌜ containedNumbers r ≡ containsOf maps (memory (now (marks .entry)) (now (keys .entry)) (now (values .entry))) key ⌝ }
+    ensures { λ r. ⌜ containedNumbers r ≡ containsOf maps (before marks keys values) key ⌝ }
 {
     let seen = ints::seek(marks, keys, values, key);
     match seen {

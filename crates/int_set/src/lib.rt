@@ -1,7 +1,7 @@
 // The integer set: u64 keys in lent slot arrays, and the calls that store. Each contract is one equation with a definition of the theory at this store.
 ghost use mathlib.Core.Path.{_≡_};
 ghost use Rattle.answers.specs.Numbers.{outcomeNumbers, addedNumbers, droppedNumbers};
-ghost use Rattle.ints.specs.Sets.{sets, memory};
+ghost use Rattle.ints.specs.Sets.{sets, before, after};
 ghost use Rattle.kinds.specs.Told.{told};
 ghost use Rattle.int_set.specs.Calls.{insertOf};
 ghost use Rattle.kinds.specs.Calls.{makeOf, droppedOf};
@@ -15,7 +15,7 @@ use kinds::Probed;
 
 // Makes an empty set of the lent arrays.
 pub fn make(marks: &mut [u8], keys: &mut [u64]) -> Outcome
-    ensures { λ r. ⌜ told (outcomeNumbers r) (memory (now (marks .exit)) (now (keys .exit))) ≡ makeOf sets (memory (now (marks .entry)) (now (keys .entry))) ⌝ }
+    ensures { λ r. ⌜ told (outcomeNumbers r) (after marks keys) ≡ makeOf sets (before marks keys) ⌝ }
 {
     if ints::fits(marks, keys) {
         clear_bytes(marks);
@@ -27,14 +27,14 @@ pub fn make(marks: &mut [u8], keys: &mut [u64]) -> Outcome
 
 // Empties a set: every slot becomes never used.
 pub fn clear(marks: &mut [u8], keys: &mut [u64]) -> Outcome
-    ensures { λ r. ⌜ told (outcomeNumbers r) (memory (now (marks .exit)) (now (keys .exit))) ≡ makeOf sets (memory (now (marks .entry)) (now (keys .entry))) ⌝ }
+    ensures { λ r. ⌜ told (outcomeNumbers r) (after marks keys) ≡ makeOf sets (before marks keys) ⌝ }
 {
     make(marks, keys)
 }
 
 // Puts a key in: the first free slot of its path takes it; one that is there already stores nothing.
 pub fn insert(marks: &mut [u8], keys: &mut [u64], key: u64) -> Added
-    ensures { λ r. ⌜ told (addedNumbers r) (memory (now (marks .exit)) (now (keys .exit))) ≡ insertOf (memory (now (marks .entry)) (now (keys .entry))) key ⌝ }
+    ensures { λ r. ⌜ told (addedNumbers r) (after marks keys) ≡ insertOf (before marks keys) key ⌝ }
 {
     let seen = ints::probe(marks, keys, key);
     match seen {
@@ -51,7 +51,7 @@ pub fn insert(marks: &mut [u8], keys: &mut [u64], key: u64) -> Added
 
 // Takes a key out: its slot is freed, its word becomes 0.
 pub fn remove(marks: &mut [u8], keys: &mut [u64], key: u64) -> Dropped
-    ensures { λ r. ⌜ told (droppedNumbers r) (memory (now (marks .exit)) (now (keys .exit))) ≡ droppedOf sets (memory (now (marks .entry)) (now (keys .entry))) key ⌝ }
+    ensures { λ r. ⌜ told (droppedNumbers r) (after marks keys) ≡ droppedOf sets (before marks keys) key ⌝ }
 {
     let seen = ints::probe(marks, keys, key);
     match seen {

@@ -2,7 +2,7 @@
 ghost use mathlib.Core.Path.{_≡_};
 ghost use Rattle.answers.specs.Numbers.{outcomeNumbers};
 ghost use Rattle.kinds.specs.Told.{told};
-ghost use Rattle.ints.specs.Sets.{sets, memory};
+ghost use Rattle.ints.specs.Sets.{sets, before, after};
 ghost use Rattle.kinds.specs.Calls.{copyOf};
 use answers::Outcome;
 use answers::Refusal;
@@ -11,7 +11,7 @@ use arrays::copy_words;
 
 // Makes a set equal to another of equal sizes, in every slot.
 pub fn copy(to_marks: &mut [u8], to_keys: &mut [u64], marks: &[u8], keys: &[u64]) -> Outcome
-    ensures { λ r. ⌜ told (outcomeNumbers r) (memory (now («to_marks» .exit)) (now («to_keys» .exit))) ≡ copyOf sets (memory (now («to_marks» .entry)) (now («to_keys» .entry))) (memory (now (marks .entry)) (now (keys .entry))) ⌝ }
+    ensures { λ r. ⌜ told (outcomeNumbers r) (after «to_marks» «to_keys») ≡ copyOf sets (before «to_marks» «to_keys») (before marks keys) ⌝ }
 {
     if ints::fits(to_marks, to_keys) {
         if ints::fits(marks, keys) {

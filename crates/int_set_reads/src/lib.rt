@@ -1,7 +1,7 @@
 // The calls of an integer set that only read. Each contract is one equation with a definition of the theory at this store.
 ghost use mathlib.Core.Path.{_≡_};
 ghost use Rattle.answers.specs.Numbers.{countedNumbers, emptinessNumbers, reservedNumbers, memberNumbers, containedNumbers};
-ghost use Rattle.ints.specs.Sets.{sets, memory};
+ghost use Rattle.ints.specs.Sets.{sets, before};
 ghost use Rattle.int_set_reads.specs.Calls.{getOf};
 ghost use Rattle.kinds.specs.Calls.{capacityOf, lenOf, isEmptyOf, reserveOf, containsOf};
 use answers::Contained;
@@ -15,7 +15,7 @@ use kinds::Scanned;
 
 // The number of slots.
 pub fn capacity(marks: &[u8], keys: &[u64]) -> Counted
-    ensures { λ r. ⌜ countedNumbers r ≡ capacityOf sets (memory (now (marks .entry)) (now (keys .entry))) ⌝ }
+    ensures { λ r. ⌜ countedNumbers r ≡ capacityOf sets (before marks keys) ⌝ }
 {
     if ints::fits(marks, keys) {
         return Counted::Count(marks.len());
@@ -25,7 +25,7 @@ pub fn capacity(marks: &[u8], keys: &[u64]) -> Counted
 
 // The number of keys.
 pub fn len(marks: &[u8], keys: &[u64]) -> Counted
-    ensures { λ r. ⌜ countedNumbers r ≡ lenOf sets (memory (now (marks .entry)) (now (keys .entry))) ⌝ }
+    ensures { λ r. ⌜ countedNumbers r ≡ lenOf sets (before marks keys) ⌝ }
 {
     if ints::fits(marks, keys) {
         let seen = ints::scan(marks);
@@ -39,7 +39,7 @@ pub fn len(marks: &[u8], keys: &[u64]) -> Counted
 
 // Whether there is no key.
 pub fn is_empty(marks: &[u8], keys: &[u64]) -> Emptiness
-    ensures { λ r. ⌜ emptinessNumbers r ≡ isEmptyOf sets (memory (now (marks .entry)) (now (keys .entry))) ⌝ }
+    ensures { λ r. ⌜ emptinessNumbers r ≡ isEmptyOf sets (before marks keys) ⌝ }
 {
     let count = len(marks, keys);
     match count {
@@ -55,7 +55,7 @@ pub fn is_empty(marks: &[u8], keys: &[u64]) -> Emptiness
 
 // Whether so many slots are not live.
 pub fn reserve(marks: &[u8], keys: &[u64], asked: u64) -> Reserved
-    ensures { λ r. ⌜ reservedNumbers r ≡ reserveOf sets (memory (now (marks .entry)) (now (keys .entry))) asked ⌝ }
+    ensures { λ r. ⌜ reservedNumbers r ≡ reserveOf sets (before marks keys) asked ⌝ }
 {
     let count = len(marks, keys);
     match count {
@@ -71,7 +71,7 @@ pub fn reserve(marks: &[u8], keys: &[u64], asked: u64) -> Reserved
 
 // The key where it is there, with its slot and the examined number.
 pub fn get(marks: &[u8], keys: &[u64], key: u64) -> Member
-    ensures { λ r. ⌜ memberNumbers r ≡ getOf (memory (now (marks .entry)) (now (keys .entry))) key ⌝ }
+    ensures { λ r. ⌜ memberNumbers r ≡ getOf (before marks keys) key ⌝ }
 {
     let seen = ints::probe(marks, keys, key);
     match seen {
@@ -84,7 +84,7 @@ pub fn get(marks: &[u8], keys: &[u64], key: u64) -> Member
 
 // Whether a key is there, with the examined number.
 pub fn contains(marks: &[u8], keys: &[u64], key: u64) -> Contained
-    ensures { λ r. ⌜ containedNumbers r ≡ containsOf sets (memory (now (marks .entry)) (now (keys .entry))) key ⌝ }
+    ensures { λ r. ⌜ containedNumbers r ≡ containsOf sets (before marks keys) key ⌝ }
 {
     let seen = ints::probe(marks, keys, key);
     match seen {

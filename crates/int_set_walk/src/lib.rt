@@ -7,7 +7,7 @@ ghost use Rattle.answers.specs.Refusals.{numberOf};
 ghost use Rattle.answers.specs.Said.{keyHanded, stepSaid};
 ghost use Rattle.kinds.specs.Told.{told};
 ghost use Rattle.lent.specs.Moved.{movedOn};
-ghost use Rattle.ints.specs.Sets.{memory};
+ghost use Rattle.ints.specs.Sets.{before};
 ghost use Rattle.int_set_walk.specs.Calls.{paceOf, stepOf};
 ghost use Rattle.int_set_walk.specs.Numbers.{stepNumbers};
 use answers::Refusal;
@@ -48,7 +48,7 @@ fn refused(at: usize, why: Refusal) -> Stride
 // The slots of a step: up to the first live one, within so many.
 fn pace(marks: &[u8], keys: &[u64], at: usize, slots: usize) -> Stride
     requires { ⌜ (at + slots ≤ length (now marks)) × (length (now keys) ≡ length (now marks)) ⌝ }
-    ensures { λ r. ⌜ stepNumbers r ≡ paceOf (memory (now (marks .entry)) (now (keys .entry))) at slots ⌝ }
+    ensures { λ r. ⌜ stepNumbers r ≡ paceOf (before marks keys) at slots ⌝ }
 {
     let next = ints::next_live(marks, at, at + slots);
     match next {
@@ -76,7 +76,7 @@ impl Walk {
 
     // One step with a budget of slots: the key of the first live slot within it, nothing, or done.
     pub fn step(self, marks: &[u8], keys: &[u64], budget: u64) -> Stride
-        ensures { λ r. ⌜ stepNumbers r ≡ stepOf (memory (now (marks .entry)) (now (keys .entry))) (self .at) budget ⌝ }
+        ensures { λ r. ⌜ stepNumbers r ≡ stepOf (before marks keys) (self .at) budget ⌝ }
     {
         let at = self.at;
         if ints::fits(marks, keys) {
@@ -100,7 +100,7 @@ impl Walk {
 
     // One step of a lent walk, which moves on in its place.
     pub fn step_on(&mut self, marks: &[u8], keys: &[u64], budget: u64) -> Stride
-        ensures { λ r. ⌜ told (stepNumbers r) (now (self .exit) .at) ≡ movedOn (stepOf (memory (now (marks .entry)) (now (keys .entry))) (now (self .entry) .at) budget) ⌝ }
+        ensures { λ r. ⌜ told (stepNumbers r) (now (self .exit) .at) ≡ movedOn (stepOf (before marks keys) (now (self .entry) .at) budget) ⌝ }
     {
         let r = self.step(marks, keys, budget);
         *self = r.walk;

@@ -4,9 +4,8 @@ ghost use mathlib.Core.Bool.{true};
 ghost use lib.ListN.{length};
 ghost use Rattle.model.specs.Calls.{rule};
 ghost use Rattle.answers.specs.Numbers.{outcomeNumbers};
-ghost use Rattle.ints.specs.Memory.{memory};
 ghost use Rattle.ints.specs.Seeking.{fittingMap};
-ghost use Rattle.ints.specs.Maps.{maps};
+ghost use Rattle.ints.specs.Maps.{maps, before, after};
 ghost use Rattle.kinds.specs.Told.{told};
 ghost use Rattle.int_union.specs.Calls.{planOf, lackOf, lacksOf, slotStored, allStored};
 ghost use Rattle.kinds.specs.Calls.{unionOf};
@@ -18,7 +17,7 @@ use kinds::Scanned;
 // What a slot of the right with this mark and key needs of the left: one slot where it is live and its key is absent.
 fn lack(marks: &[u8], keys: &[u64], values: &[u64], mark: u8, key: u64) -> usize
     requires { ⌜ fittingMap (now marks) (now keys) (now values) ≡ true ⌝ }
-    ensures { λ r. ⌜ r ≡ lackOf (memory (now (marks .entry)) (now (keys .entry)) (now (values .entry))) mark key ⌝ }
+    ensures { λ r. ⌜ r ≡ lackOf (before marks keys values) mark key ⌝ }
 {
     if mark == 1 {
         let seen = ints::seek(marks, keys, values, key);
@@ -42,7 +41,7 @@ fn lacks(
     right_values: &[u64],
 ) -> usize
     requires { ⌜ (fittingMap (now marks) (now keys) (now values) ≡ true) × (length (now «right_keys») ≡ length (now «right_marks»)) ⌝ }
-    ensures { λ r. ⌜ r ≡ lacksOf (memory (now (marks .entry)) (now (keys .entry)) (now (values .entry))) (memory (now («right_marks» .entry)) (now («right_keys» .entry)) (now («right_values» .entry))) (length (now («right_marks» .entry))) ⌝ }
+    ensures { λ r. ⌜ r ≡ lacksOf (before marks keys values) (before «right_marks» «right_keys» «right_values») (length (now («right_marks» .entry))) ⌝ }
 {
     let mut sum = 0;
     let mut i = 0;
@@ -63,7 +62,7 @@ fn room(
     right_values: &[u64],
 ) -> Outcome
     requires { ⌜ (fittingMap (now marks) (now keys) (now values) ≡ true) × (fittingMap (now «right_marks») (now «right_keys») (now «right_values») ≡ true) ⌝ }
-    ensures { λ r. ⌜ outcomeNumbers r ≡ planOf (memory (now (marks .entry)) (now (keys .entry)) (now (values .entry))) (memory (now («right_marks» .entry)) (now («right_keys» .entry)) (now («right_values» .entry))) ⌝ }
+    ensures { λ r. ⌜ outcomeNumbers r ≡ planOf (before marks keys values) (before «right_marks» «right_keys» «right_values») ⌝ }
 {
     let seen = ints::scan(marks);
     let Scanned::Live(live) = seen else {
@@ -88,7 +87,7 @@ fn plan(
     right_keys: &[u64],
     right_values: &[u64],
 ) -> Outcome
-    ensures { λ r. ⌜ outcomeNumbers r ≡ planOf (memory (now (marks .entry)) (now (keys .entry)) (now (values .entry))) (memory (now («right_marks» .entry)) (now («right_keys» .entry)) (now («right_values» .entry))) ⌝ }
+    ensures { λ r. ⌜ outcomeNumbers r ≡ planOf (before marks keys values) (before «right_marks» «right_keys» «right_values») ⌝ }
 {
     if ints::map_fits(marks, keys, values) {
         if ints::map_fits(right_marks, right_keys, right_values) {
@@ -102,7 +101,7 @@ fn plan(
 // The insert rule with no test: the key's value changes in its slot, or the first free slot of its path takes the key.
 fn store(marks: &mut [u8], keys: &mut [u64], values: &mut [u64], key: u64, value: u64)
     requires { ⌜ fittingMap (now marks) (now keys) (now values) ≡ true ⌝ }
-    ensures { λ r. ⌜ memory (now (marks .exit)) (now (keys .exit)) (now (values .exit)) ≡ rule maps (memory (now (marks .entry)) (now (keys .entry)) (now (values .entry))) key value ⌝ }
+    ensures { λ r. ⌜ after marks keys values ≡ rule maps (before marks keys values) key value ⌝ }
 {
     let seen = ints::seek(marks, keys, values, key);
     match seen {
@@ -131,7 +130,7 @@ fn store_slot(
     value: u64,
 )
     requires { ⌜ fittingMap (now marks) (now keys) (now values) ≡ true ⌝ }
-    ensures { λ r. ⌜ memory (now (marks .exit)) (now (keys .exit)) (now (values .exit)) ≡ slotStored (memory (now (marks .entry)) (now (keys .entry)) (now (values .entry))) mark key value ⌝ }
+    ensures { λ r. ⌜ after marks keys values ≡ slotStored (before marks keys values) mark key value ⌝ }
 {
     if mark == 1 {
         store(marks, keys, values, key, value);
@@ -149,7 +148,7 @@ fn store_all(
     right_values: &[u64],
 )
     requires { ⌜ (fittingMap (now marks) (now keys) (now values) ≡ true) × (length (now «right_keys») ≡ length (now «right_marks»)) × (length (now «right_values») ≡ length (now «right_marks»)) ⌝ }
-    ensures { λ r. ⌜ memory (now (marks .exit)) (now (keys .exit)) (now (values .exit)) ≡ allStored (memory (now (marks .entry)) (now (keys .entry)) (now (values .entry))) (memory (now («right_marks» .entry)) (now («right_keys» .entry)) (now («right_values» .entry))) (length (now («right_marks» .entry))) ⌝ }
+    ensures { λ r. ⌜ after marks keys values ≡ allStored (before marks keys values) (before «right_marks» «right_keys» «right_values») (length (now («right_marks» .entry))) ⌝ }
 {
     let mut i = 0;
     while i < right_marks.len() {
@@ -174,7 +173,7 @@ pub fn union_prefer_right(
     right_keys: &[u64],
     right_values: &[u64],
 ) -> Outcome
-    ensures { λ r. ⌜ told (outcomeNumbers r) (memory (now (marks .exit)) (now (keys .exit)) (now (values .exit))) ≡ unionOf maps (memory (now (marks .entry)) (now (keys .entry)) (now (values .entry))) (memory (now («right_marks» .entry)) (now («right_keys» .entry)) (now («right_values» .entry))) ⌝ }
+    ensures { λ r. ⌜ told (outcomeNumbers r) (after marks keys values) ≡ unionOf maps (before marks keys values) (before «right_marks» «right_keys» «right_values») ⌝ }
 {
     let outcome = plan(marks, keys, values, right_marks, right_keys, right_values);
     match outcome {

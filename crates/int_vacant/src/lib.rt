@@ -2,11 +2,10 @@
 ghost use mathlib.Core.Path.{_≡_};
 ghost use Rattle.answers.specs.Numbers.{outcomeNumbers};
 ghost use Rattle.kinds.specs.Told.{told};
-ghost use Rattle.ints.specs.Memory.{memory};
 ghost use Rattle.int_vacant.specs.Numbers.{standingNumbers};
 ghost use Rattle.int_vacant.specs.Calls.{freshOf};
 ghost use Rattle.kinds.specs.Calls.{standingOf};
-ghost use Rattle.ints.specs.Maps.{maps};
+ghost use Rattle.ints.specs.Maps.{maps, before, after};
 use answers::Outcome;
 use answers::Refusal;
 use int_handles::Occupied;
@@ -25,7 +24,7 @@ pub enum Standing {
 
 // Whether a vacant handle of this slot is good for the key: insert would use that very slot.
 fn fresh_at(marks: &[u8], keys: &[u64], values: &[u64], slot: usize, key: u64) -> Outcome
-    ensures { λ r. ⌜ outcomeNumbers r ≡ freshOf (memory (now (marks .entry)) (now (keys .entry)) (now (values .entry))) slot key ⌝ }
+    ensures { λ r. ⌜ outcomeNumbers r ≡ freshOf (before marks keys values) slot key ⌝ }
 {
     let seen = ints::seek(marks, keys, values, key);
     match seen {
@@ -51,7 +50,7 @@ impl Vacant {
         key: u64,
         value: u64,
     ) -> Standing
-        ensures { λ r. ⌜ told (standingNumbers r) (memory (now (marks .exit)) (now (keys .exit)) (now (values .exit))) ≡ standingOf maps (memory (now (marks .entry)) (now (keys .entry)) (now (values .entry))) (self .slot) key value ⌝ }
+        ensures { λ r. ⌜ told (standingNumbers r) (after marks keys values) ≡ standingOf maps (before marks keys values) (self .slot) key value ⌝ }
     {
         let slot = self.slot;
         let worth = fresh_at(marks, keys, values, slot, key);

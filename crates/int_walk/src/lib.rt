@@ -7,7 +7,7 @@ ghost use Rattle.answers.specs.Refusals.{numberOf};
 ghost use Rattle.answers.specs.Said.{pairHanded, stepSaid};
 ghost use Rattle.kinds.specs.Told.{told};
 ghost use Rattle.lent.specs.Moved.{movedOn};
-ghost use Rattle.ints.specs.Memory.{memory};
+ghost use Rattle.ints.specs.Maps.{before};
 ghost use Rattle.int_walk.specs.Calls.{paceOf, stepOf};
 ghost use Rattle.int_walk.specs.Numbers.{stepNumbers};
 use answers::Refusal;
@@ -48,7 +48,7 @@ fn refused(at: usize, why: Refusal) -> Stride
 // The slots of a step: up to the first live one, within so many.
 fn pace(marks: &[u8], keys: &[u64], values: &[u64], at: usize, slots: usize) -> Stride
     requires { ⌜ (at + slots ≤ length (now marks)) × (length (now keys) ≡ length (now marks)) × (length (now values) ≡ length (now marks)) ⌝ }
-    ensures { λ r. ⌜ stepNumbers r ≡ paceOf (memory (now (marks .entry)) (now (keys .entry)) (now (values .entry))) at slots ⌝ }
+    ensures { λ r. ⌜ stepNumbers r ≡ paceOf (before marks keys values) at slots ⌝ }
 {
     let next = ints::next_live(marks, at, at + slots);
     match next {
@@ -76,7 +76,7 @@ impl Walk {
 
     // One step with a budget of slots: the pair of the first live slot within it, nothing, or done.
     pub fn step(self, marks: &[u8], keys: &[u64], values: &[u64], budget: u64) -> Stride
-        ensures { λ r. ⌜ stepNumbers r ≡ stepOf (memory (now (marks .entry)) (now (keys .entry)) (now (values .entry))) (self .at) budget ⌝ }
+        ensures { λ r. ⌜ stepNumbers r ≡ stepOf (before marks keys values) (self .at) budget ⌝ }
     {
         let at = self.at;
         if ints::map_fits(marks, keys, values) {
@@ -100,7 +100,7 @@ impl Walk {
 
     // One step of a lent walk, which moves on in its place.
     pub fn step_on(&mut self, marks: &[u8], keys: &[u64], values: &[u64], budget: u64) -> Stride
-        ensures { λ r. ⌜ told (stepNumbers r) (now (self .exit) .at) ≡ movedOn (stepOf (memory (now (marks .entry)) (now (keys .entry)) (now (values .entry))) (now (self .entry) .at) budget) ⌝ }
+        ensures { λ r. ⌜ told (stepNumbers r) (now (self .exit) .at) ≡ movedOn (stepOf (before marks keys values) (now (self .entry) .at) budget) ⌝ }
     {
         let r = self.step(marks, keys, values, budget);
         *self = r.walk;

@@ -1,8 +1,10 @@
--- An integer set as a store. The crates of the integer set share it.
+-- An integer set as a store, and its lent arrays as the contracts name them. The crates of the integer set share it.
 use Prim.Native.Nat.{ℕ}
 use mathlib.Core.List.{List}
+use denote.Ref.{now}
 use Rattle.model.specs.Store.{Store}
 use Rattle.kinds.specs.Columns.{nothing}
+use Rattle.kinds.specs.Lent.{Lent}
 use Rattle.ints.specs.Memory.{Cells, cells}
 
 -- An integer set as a store: no values stand beside its keys.
@@ -12,3 +14,10 @@ sets = cells nothing
 -- The lent lists of a set.
 abbrev pub memory : List ℕ → List ℕ → Cells nothing
 memory marks keys = record { marks = marks; keys = keys; words = tt }
+
+-- The lent arrays of a set when a call starts, and when it ends.
+abbrev pub before : Lent → Lent → Cells nothing
+before marks keys = memory (now (marks .entry)) (now (keys .entry))
+
+abbrev pub after : Lent → Lent → Cells nothing
+after marks keys = memory (now (marks .exit)) (now (keys .exit))

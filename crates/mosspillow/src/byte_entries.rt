@@ -3,7 +3,8 @@ ghost use mathlib.Core.Path.{_≡_};
 ghost use lib.ListN.{length};
 ghost use Rattle.kinds.specs.Told.{told};
 ghost use Rattle.kinds.specs.Calls.{entryOf, heldOf, setOf, takenOf, standingOf, orInsertOf, insertEntryOf};
-ghost use Rattle.spans.specs.Kinds.{maps, mapMemory};
+ghost use Rattle.spans.specs.Kinds.{maps};
+ghost use Rattle.spans.specs.Maps.{before, after};
 ghost use Rattle.numbers.specs.Handed.{handleAs};
 use answers::Numbers;
 use byte_handles::Occupied;
@@ -25,7 +26,7 @@ pub extern "C" fn moss_byte_map_entry(
     arena: &[u8],
     key: &[u8],
 ) -> Numbers
-    ensures { λ r. ⌜ r ≡ entryOf maps (mapMemory (now (marks .entry)) (now (offsets .entry)) (now (lengths .entry)) (now (values .entry)) (now (arena .entry))) (now (key .entry)) ⌝ }
+    ensures { λ r. ⌜ r ≡ entryOf maps (before marks offsets lengths values arena) (now (key .entry)) ⌝ }
 {
     entered_numbers(byte_entry::entry(marks, offsets, lengths, values, arena, key))
 }
@@ -41,7 +42,7 @@ pub extern "C" fn moss_byte_map_occupied_get(
     slot: u64,
     key: &[u8],
 ) -> Numbers
-    ensures { λ r. ⌜ r ≡ heldOf maps (mapMemory (now (marks .entry)) (now (offsets .entry)) (now (lengths .entry)) (now (values .entry)) (now (arena .entry))) slot (now (key .entry)) ⌝ }
+    ensures { λ r. ⌜ r ≡ heldOf maps (before marks offsets lengths values arena) slot (now (key .entry)) ⌝ }
 {
     let handle = Occupied {
         slot: slot as usize,
@@ -61,7 +62,7 @@ pub extern "C" fn moss_byte_map_occupied_set(
     key: &[u8],
     value: u64,
 ) -> Numbers
-    ensures { λ r. ⌜ told r (mapMemory (now (marks .exit)) (now (offsets .exit)) (now (lengths .exit)) (now (values .exit)) (now (arena .exit))) ≡ setOf maps (mapMemory (now (marks .entry)) (now (offsets .entry)) (now (lengths .entry)) (now (values .entry)) (now (arena .entry))) slot (now (key .entry)) value ⌝ }
+    ensures { λ r. ⌜ told r (after marks offsets lengths values arena) ≡ setOf maps (before marks offsets lengths values arena) slot (now (key .entry)) value ⌝ }
 {
     let handle = Occupied {
         slot: slot as usize,
@@ -80,7 +81,7 @@ pub extern "C" fn moss_byte_map_occupied_remove(
     slot: u64,
     key: &[u8],
 ) -> Numbers
-    ensures { λ r. ⌜ told r (mapMemory (now (marks .exit)) (now (offsets .exit)) (now (lengths .exit)) (now (values .exit)) (now (arena .exit))) ≡ takenOf maps (mapMemory (now (marks .entry)) (now (offsets .entry)) (now (lengths .entry)) (now (values .entry)) (now (arena .entry))) slot (now (key .entry)) ⌝ }
+    ensures { λ r. ⌜ told r (after marks offsets lengths values arena) ≡ takenOf maps (before marks offsets lengths values arena) slot (now (key .entry)) ⌝ }
 {
     let handle = Occupied {
         slot: slot as usize,
@@ -99,7 +100,7 @@ pub extern "C" fn moss_byte_map_occupied_remove_entry(
     slot: u64,
     key: &[u8],
 ) -> Numbers
-    ensures { λ r. ⌜ told r (mapMemory (now (marks .exit)) (now (offsets .exit)) (now (lengths .exit)) (now (values .exit)) (now (arena .exit))) ≡ takenOf maps (mapMemory (now (marks .entry)) (now (offsets .entry)) (now (lengths .entry)) (now (values .entry)) (now (arena .entry))) slot (now (key .entry)) ⌝ }
+    ensures { λ r. ⌜ told r (after marks offsets lengths values arena) ≡ takenOf maps (before marks offsets lengths values arena) slot (now (key .entry)) ⌝ }
 {
     let handle = Occupied {
         slot: slot as usize,
@@ -119,7 +120,7 @@ pub extern "C" fn moss_byte_map_vacant_insert(
     key: &[u8],
     value: u64,
 ) -> Numbers
-    ensures { λ r. ⌜ told r (mapMemory (now (marks .exit)) (now (offsets .exit)) (now (lengths .exit)) (now (values .exit)) (now (arena .exit))) ≡ standingOf maps (mapMemory (now (marks .entry)) (now (offsets .entry)) (now (lengths .entry)) (now (values .entry)) (now (arena .entry))) slot (now (key .entry)) value ⌝ }
+    ensures { λ r. ⌜ told r (after marks offsets lengths values arena) ≡ standingOf maps (before marks offsets lengths values arena) slot (now (key .entry)) value ⌝ }
 {
     let handle = Vacant {
         slot: slot as usize,
@@ -140,7 +141,7 @@ pub extern "C" fn moss_byte_map_or_insert(
     key: &[u8],
     default: u64,
 ) -> Numbers
-    ensures { λ r. ⌜ told r (mapMemory (now (marks .exit)) (now (offsets .exit)) (now (lengths .exit)) (now (values .exit)) (now (arena .exit))) ≡ orInsertOf maps (mapMemory (now (marks .entry)) (now (offsets .entry)) (now (lengths .entry)) (now (values .entry)) (now (arena .entry))) (handleAs (length (now (marks .entry))) case slot) (now (key .entry)) default ⌝ }
+    ensures { λ r. ⌜ told r (after marks offsets lengths values arena) ≡ orInsertOf maps (before marks offsets lengths values arena) (handleAs (length (now (marks .entry))) case slot) (now (key .entry)) default ⌝ }
 {
     let handle = entered(case, slot);
     standing_numbers(handle.or_insert(marks, offsets, lengths, values, arena, key, default))
@@ -159,7 +160,7 @@ pub extern "C" fn moss_byte_map_insert_entry(
     key: &[u8],
     value: u64,
 ) -> Numbers
-    ensures { λ r. ⌜ told r (mapMemory (now (marks .exit)) (now (offsets .exit)) (now (lengths .exit)) (now (values .exit)) (now (arena .exit))) ≡ insertEntryOf maps (mapMemory (now (marks .entry)) (now (offsets .entry)) (now (lengths .entry)) (now (values .entry)) (now (arena .entry))) (handleAs (length (now (marks .entry))) case slot) (now (key .entry)) value ⌝ }
+    ensures { λ r. ⌜ told r (after marks offsets lengths values arena) ≡ insertEntryOf maps (before marks offsets lengths values arena) (handleAs (length (now (marks .entry))) case slot) (now (key .entry)) value ⌝ }
 {
     let handle = entered(case, slot);
     standing_numbers(handle.insert_entry(marks, offsets, lengths, values, arena, key, value))

@@ -3,7 +3,8 @@ ghost use mathlib.Core.Path.{_≡_};
 ghost use Rattle.kinds.specs.Told.{told};
 ghost use Rattle.lent.specs.Moved.{movedOn};
 ghost use Rattle.kinds.specs.Calls.{makeOf, capacityOf, lenOf, isEmptyOf, reserveOf, getOf, containsOf, removeOf, copyOf, unionOf};
-ghost use Rattle.spans.specs.Kinds.{maps, mapMemory, insertOf, stepOf};
+ghost use Rattle.spans.specs.Kinds.{maps, insertOf, stepOf};
+ghost use Rattle.spans.specs.Maps.{before, after};
 use answers::Numbers;
 use answers::contained_numbers;
 use answers::counted_numbers;
@@ -25,7 +26,7 @@ pub extern "C" fn moss_byte_map_make(
     values: &mut [u64],
     arena: &mut [u8],
 ) -> Numbers
-    ensures { λ r. ⌜ told r (mapMemory (now (marks .exit)) (now (offsets .exit)) (now (lengths .exit)) (now (values .exit)) (now (arena .exit))) ≡ makeOf maps (mapMemory (now (marks .entry)) (now (offsets .entry)) (now (lengths .entry)) (now (values .entry)) (now (arena .entry))) ⌝ }
+    ensures { λ r. ⌜ told r (after marks offsets lengths values arena) ≡ makeOf maps (before marks offsets lengths values arena) ⌝ }
 {
     outcome_numbers(byte_map::make(marks, offsets, lengths, values, arena))
 }
@@ -39,7 +40,7 @@ pub extern "C" fn moss_byte_map_clear(
     values: &mut [u64],
     arena: &mut [u8],
 ) -> Numbers
-    ensures { λ r. ⌜ told r (mapMemory (now (marks .exit)) (now (offsets .exit)) (now (lengths .exit)) (now (values .exit)) (now (arena .exit))) ≡ makeOf maps (mapMemory (now (marks .entry)) (now (offsets .entry)) (now (lengths .entry)) (now (values .entry)) (now (arena .entry))) ⌝ }
+    ensures { λ r. ⌜ told r (after marks offsets lengths values arena) ≡ makeOf maps (before marks offsets lengths values arena) ⌝ }
 {
     outcome_numbers(byte_map::clear(marks, offsets, lengths, values, arena))
 }
@@ -53,7 +54,7 @@ pub extern "C" fn moss_byte_map_capacity(
     values: &[u64],
     arena: &[u8],
 ) -> Numbers
-    ensures { λ r. ⌜ r ≡ capacityOf maps (mapMemory (now (marks .entry)) (now (offsets .entry)) (now (lengths .entry)) (now (values .entry)) (now (arena .entry))) ⌝ }
+    ensures { λ r. ⌜ r ≡ capacityOf maps (before marks offsets lengths values arena) ⌝ }
 {
     counted_numbers(byte_reads::capacity(marks, offsets, lengths, values, arena))
 }
@@ -67,7 +68,7 @@ pub extern "C" fn moss_byte_map_len(
     values: &[u64],
     arena: &[u8],
 ) -> Numbers
-    ensures { λ r. ⌜ r ≡ lenOf maps (mapMemory (now (marks .entry)) (now (offsets .entry)) (now (lengths .entry)) (now (values .entry)) (now (arena .entry))) ⌝ }
+    ensures { λ r. ⌜ r ≡ lenOf maps (before marks offsets lengths values arena) ⌝ }
 {
     counted_numbers(byte_reads::len(marks, offsets, lengths, values, arena))
 }
@@ -81,7 +82,7 @@ pub extern "C" fn moss_byte_map_is_empty(
     values: &[u64],
     arena: &[u8],
 ) -> Numbers
-    ensures { λ r. ⌜ r ≡ isEmptyOf maps (mapMemory (now (marks .entry)) (now (offsets .entry)) (now (lengths .entry)) (now (values .entry)) (now (arena .entry))) ⌝ }
+    ensures { λ r. ⌜ r ≡ isEmptyOf maps (before marks offsets lengths values arena) ⌝ }
 {
     emptiness_numbers(byte_reads::is_empty(marks, offsets, lengths, values, arena))
 }
@@ -96,7 +97,7 @@ pub extern "C" fn moss_byte_map_reserve(
     arena: &[u8],
     asked: u64,
 ) -> Numbers
-    ensures { λ r. ⌜ r ≡ reserveOf maps (mapMemory (now (marks .entry)) (now (offsets .entry)) (now (lengths .entry)) (now (values .entry)) (now (arena .entry))) asked ⌝ }
+    ensures { λ r. ⌜ r ≡ reserveOf maps (before marks offsets lengths values arena) asked ⌝ }
 {
     reserved_numbers(byte_reads::reserve(marks, offsets, lengths, values, arena, asked))
 }
@@ -111,7 +112,7 @@ pub extern "C" fn moss_byte_map_get(
     arena: &[u8],
     key: &[u8],
 ) -> Numbers
-    ensures { λ r. ⌜ r ≡ getOf maps (mapMemory (now (marks .entry)) (now (offsets .entry)) (now (lengths .entry)) (now (values .entry)) (now (arena .entry))) (now (key .entry)) ⌝ }
+    ensures { λ r. ⌜ r ≡ getOf maps (before marks offsets lengths values arena) (now (key .entry)) ⌝ }
 {
     got_numbers(byte_reads::get(marks, offsets, lengths, values, arena, key))
 }
@@ -126,7 +127,7 @@ pub extern "C" fn moss_byte_map_contains_key(
     arena: &[u8],
     key: &[u8],
 ) -> Numbers
-    ensures { λ r. ⌜ r ≡ containsOf maps (mapMemory (now (marks .entry)) (now (offsets .entry)) (now (lengths .entry)) (now (values .entry)) (now (arena .entry))) (now (key .entry)) ⌝ }
+    ensures { λ r. ⌜ r ≡ containsOf maps (before marks offsets lengths values arena) (now (key .entry)) ⌝ }
 {
     contained_numbers(byte_reads::contains_key(marks, offsets, lengths, values, arena, key))
 }
@@ -142,7 +143,7 @@ pub extern "C" fn moss_byte_map_insert(
     key: &[u8],
     value: u64,
 ) -> Numbers
-    ensures { λ r. ⌜ told r (mapMemory (now (marks .exit)) (now (offsets .exit)) (now (lengths .exit)) (now (values .exit)) (now (arena .exit))) ≡ insertOf (mapMemory (now (marks .entry)) (now (offsets .entry)) (now (lengths .entry)) (now (values .entry)) (now (arena .entry))) (now (key .entry)) value ⌝ }
+    ensures { λ r. ⌜ told r (after marks offsets lengths values arena) ≡ insertOf (before marks offsets lengths values arena) (now (key .entry)) value ⌝ }
 {
     stored_numbers(byte_map::insert(marks, offsets, lengths, values, arena, key, value))
 }
@@ -157,7 +158,7 @@ pub extern "C" fn moss_byte_map_remove(
     arena: &mut [u8],
     key: &[u8],
 ) -> Numbers
-    ensures { λ r. ⌜ told r (mapMemory (now (marks .exit)) (now (offsets .exit)) (now (lengths .exit)) (now (values .exit)) (now (arena .exit))) ≡ removeOf maps (mapMemory (now (marks .entry)) (now (offsets .entry)) (now (lengths .entry)) (now (values .entry)) (now (arena .entry))) (now (key .entry)) ⌝ }
+    ensures { λ r. ⌜ told r (after marks offsets lengths values arena) ≡ removeOf maps (before marks offsets lengths values arena) (now (key .entry)) ⌝ }
 {
     removed_numbers(byte_map::remove(marks, offsets, lengths, values, arena, key))
 }
@@ -176,7 +177,7 @@ pub extern "C" fn moss_byte_map_copy(
     values: &[u64],
     arena: &[u8],
 ) -> Numbers
-    ensures { λ r. ⌜ told r (mapMemory (now («to_marks» .exit)) (now («to_offsets» .exit)) (now («to_lengths» .exit)) (now («to_values» .exit)) (now («to_arena» .exit))) ≡ copyOf maps (mapMemory (now («to_marks» .entry)) (now («to_offsets» .entry)) (now («to_lengths» .entry)) (now («to_values» .entry)) (now («to_arena» .entry))) (mapMemory (now (marks .entry)) (now (offsets .entry)) (now (lengths .entry)) (now (values .entry)) (now (arena .entry))) ⌝ }
+    ensures { λ r. ⌜ told r (after «to_marks» «to_offsets» «to_lengths» «to_values» «to_arena») ≡ copyOf maps (before «to_marks» «to_offsets» «to_lengths» «to_values» «to_arena») (before marks offsets lengths values arena) ⌝ }
 {
     outcome_numbers(byte_copy::copy(
         to_marks,
@@ -206,7 +207,7 @@ pub extern "C" fn moss_byte_map_union_prefer_right(
     right_values: &[u64],
     right_arena: &[u8],
 ) -> Numbers
-    ensures { λ r. ⌜ told r (mapMemory (now (marks .exit)) (now (offsets .exit)) (now (lengths .exit)) (now (values .exit)) (now (arena .exit))) ≡ unionOf maps (mapMemory (now (marks .entry)) (now (offsets .entry)) (now (lengths .entry)) (now (values .entry)) (now (arena .entry))) (mapMemory (now («right_marks» .entry)) (now («right_offsets» .entry)) (now («right_lengths» .entry)) (now («right_values» .entry)) (now («right_arena» .entry))) ⌝ }
+    ensures { λ r. ⌜ told r (after marks offsets lengths values arena) ≡ unionOf maps (before marks offsets lengths values arena) (before «right_marks» «right_offsets» «right_lengths» «right_values» «right_arena») ⌝ }
 {
     outcome_numbers(byte_union::union_prefer_right(
         marks,
@@ -241,7 +242,7 @@ pub extern "C" fn moss_byte_map_step(
     walk: u64,
     budget: u64,
 ) -> Numbers
-    ensures { λ r. ⌜ r ≡ stepOf (mapMemory (now (marks .entry)) (now (offsets .entry)) (now (lengths .entry)) (now (values .entry)) (now (arena .entry))) walk budget ⌝ }
+    ensures { λ r. ⌜ r ≡ stepOf (before marks offsets lengths values arena) walk budget ⌝ }
 {
     let from = Walk { at: walk as usize };
     step_numbers(from.step(marks, offsets, lengths, values, arena, budget))
@@ -258,7 +259,7 @@ pub extern "C" fn moss_byte_map_walk_on(
     walk: &mut u64,
     budget: u64,
 ) -> Numbers
-    ensures { λ r. ⌜ told r (now (walk .exit)) ≡ movedOn (stepOf (mapMemory (now (marks .entry)) (now (offsets .entry)) (now (lengths .entry)) (now (values .entry)) (now (arena .entry))) (now (walk .entry)) budget) ⌝ }
+    ensures { λ r. ⌜ told r (now (walk .exit)) ≡ movedOn (stepOf (before marks offsets lengths values arena) (now (walk .entry)) budget) ⌝ }
 {
     let r = moss_byte_map_step(marks, offsets, lengths, values, arena, *walk, budget);
     *walk = r.walk;

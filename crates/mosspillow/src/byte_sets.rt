@@ -3,7 +3,8 @@ ghost use mathlib.Core.Path.{_≡_};
 ghost use Rattle.kinds.specs.Told.{told};
 ghost use Rattle.lent.specs.Moved.{movedOn};
 ghost use Rattle.kinds.specs.Calls.{makeOf, capacityOf, lenOf, isEmptyOf, reserveOf, containsOf, copyOf, droppedOf};
-ghost use Rattle.spans.specs.Kinds.{sets, setMemory, joinOf, spanOf, setStepOf};
+ghost use Rattle.spans.specs.Kinds.{sets, joinOf, spanOf, setStepOf};
+ghost use Rattle.spans.specs.Sets.{before, after};
 use answers::Numbers;
 use answers::contained_numbers;
 use answers::counted_numbers;
@@ -24,7 +25,7 @@ pub extern "C" fn moss_byte_set_make(
     lengths: &mut [u8],
     arena: &mut [u8],
 ) -> Numbers
-    ensures { λ r. ⌜ told r (setMemory (now (marks .exit)) (now (offsets .exit)) (now (lengths .exit)) (now (arena .exit))) ≡ makeOf sets (setMemory (now (marks .entry)) (now (offsets .entry)) (now (lengths .entry)) (now (arena .entry))) ⌝ }
+    ensures { λ r. ⌜ told r (after marks offsets lengths arena) ≡ makeOf sets (before marks offsets lengths arena) ⌝ }
 {
     outcome_numbers(byte_set::make(marks, offsets, lengths, arena))
 }
@@ -37,7 +38,7 @@ pub extern "C" fn moss_byte_set_clear(
     lengths: &mut [u8],
     arena: &mut [u8],
 ) -> Numbers
-    ensures { λ r. ⌜ told r (setMemory (now (marks .exit)) (now (offsets .exit)) (now (lengths .exit)) (now (arena .exit))) ≡ makeOf sets (setMemory (now (marks .entry)) (now (offsets .entry)) (now (lengths .entry)) (now (arena .entry))) ⌝ }
+    ensures { λ r. ⌜ told r (after marks offsets lengths arena) ≡ makeOf sets (before marks offsets lengths arena) ⌝ }
 {
     outcome_numbers(byte_set::clear(marks, offsets, lengths, arena))
 }
@@ -50,7 +51,7 @@ pub extern "C" fn moss_byte_set_capacity(
     lengths: &[u8],
     arena: &[u8],
 ) -> Numbers
-    ensures { λ r. ⌜ r ≡ capacityOf sets (setMemory (now (marks .entry)) (now (offsets .entry)) (now (lengths .entry)) (now (arena .entry))) ⌝ }
+    ensures { λ r. ⌜ r ≡ capacityOf sets (before marks offsets lengths arena) ⌝ }
 {
     counted_numbers(byte_set_reads::capacity(marks, offsets, lengths, arena))
 }
@@ -63,7 +64,7 @@ pub extern "C" fn moss_byte_set_len(
     lengths: &[u8],
     arena: &[u8],
 ) -> Numbers
-    ensures { λ r. ⌜ r ≡ lenOf sets (setMemory (now (marks .entry)) (now (offsets .entry)) (now (lengths .entry)) (now (arena .entry))) ⌝ }
+    ensures { λ r. ⌜ r ≡ lenOf sets (before marks offsets lengths arena) ⌝ }
 {
     counted_numbers(byte_set_reads::len(marks, offsets, lengths, arena))
 }
@@ -76,7 +77,7 @@ pub extern "C" fn moss_byte_set_is_empty(
     lengths: &[u8],
     arena: &[u8],
 ) -> Numbers
-    ensures { λ r. ⌜ r ≡ isEmptyOf sets (setMemory (now (marks .entry)) (now (offsets .entry)) (now (lengths .entry)) (now (arena .entry))) ⌝ }
+    ensures { λ r. ⌜ r ≡ isEmptyOf sets (before marks offsets lengths arena) ⌝ }
 {
     emptiness_numbers(byte_set_reads::is_empty(marks, offsets, lengths, arena))
 }
@@ -90,7 +91,7 @@ pub extern "C" fn moss_byte_set_reserve(
     arena: &[u8],
     asked: u64,
 ) -> Numbers
-    ensures { λ r. ⌜ r ≡ reserveOf sets (setMemory (now (marks .entry)) (now (offsets .entry)) (now (lengths .entry)) (now (arena .entry))) asked ⌝ }
+    ensures { λ r. ⌜ r ≡ reserveOf sets (before marks offsets lengths arena) asked ⌝ }
 {
     reserved_numbers(byte_set_reads::reserve(marks, offsets, lengths, arena, asked))
 }
@@ -104,7 +105,7 @@ pub extern "C" fn moss_byte_set_get(
     arena: &[u8],
     key: &[u8],
 ) -> Numbers
-    ensures { λ r. ⌜ r ≡ spanOf (setMemory (now (marks .entry)) (now (offsets .entry)) (now (lengths .entry)) (now (arena .entry))) (now (key .entry)) ⌝ }
+    ensures { λ r. ⌜ r ≡ spanOf (before marks offsets lengths arena) (now (key .entry)) ⌝ }
 {
     spanned_numbers(byte_set_reads::get(marks, offsets, lengths, arena, key))
 }
@@ -118,7 +119,7 @@ pub extern "C" fn moss_byte_set_contains(
     arena: &[u8],
     key: &[u8],
 ) -> Numbers
-    ensures { λ r. ⌜ r ≡ containsOf sets (setMemory (now (marks .entry)) (now (offsets .entry)) (now (lengths .entry)) (now (arena .entry))) (now (key .entry)) ⌝ }
+    ensures { λ r. ⌜ r ≡ containsOf sets (before marks offsets lengths arena) (now (key .entry)) ⌝ }
 {
     contained_numbers(byte_set_reads::contains(marks, offsets, lengths, arena, key))
 }
@@ -132,7 +133,7 @@ pub extern "C" fn moss_byte_set_insert(
     arena: &mut [u8],
     key: &[u8],
 ) -> Numbers
-    ensures { λ r. ⌜ told r (setMemory (now (marks .exit)) (now (offsets .exit)) (now (lengths .exit)) (now (arena .exit))) ≡ joinOf (setMemory (now (marks .entry)) (now (offsets .entry)) (now (lengths .entry)) (now (arena .entry))) (now (key .entry)) ⌝ }
+    ensures { λ r. ⌜ told r (after marks offsets lengths arena) ≡ joinOf (before marks offsets lengths arena) (now (key .entry)) ⌝ }
 {
     joined_numbers(byte_set::insert(marks, offsets, lengths, arena, key))
 }
@@ -146,7 +147,7 @@ pub extern "C" fn moss_byte_set_remove(
     arena: &mut [u8],
     key: &[u8],
 ) -> Numbers
-    ensures { λ r. ⌜ told r (setMemory (now (marks .exit)) (now (offsets .exit)) (now (lengths .exit)) (now (arena .exit))) ≡ droppedOf sets (setMemory (now (marks .entry)) (now (offsets .entry)) (now (lengths .entry)) (now (arena .entry))) (now (key .entry)) ⌝ }
+    ensures { λ r. ⌜ told r (after marks offsets lengths arena) ≡ droppedOf sets (before marks offsets lengths arena) (now (key .entry)) ⌝ }
 {
     dropped_numbers(byte_set::remove(marks, offsets, lengths, arena, key))
 }
@@ -163,7 +164,7 @@ pub extern "C" fn moss_byte_set_copy(
     lengths: &[u8],
     arena: &[u8],
 ) -> Numbers
-    ensures { λ r. ⌜ told r (setMemory (now («to_marks» .exit)) (now («to_offsets» .exit)) (now («to_lengths» .exit)) (now («to_arena» .exit))) ≡ copyOf sets (setMemory (now («to_marks» .entry)) (now («to_offsets» .entry)) (now («to_lengths» .entry)) (now («to_arena» .entry))) (setMemory (now (marks .entry)) (now (offsets .entry)) (now (lengths .entry)) (now (arena .entry))) ⌝ }
+    ensures { λ r. ⌜ told r (after «to_marks» «to_offsets» «to_lengths» «to_arena») ≡ copyOf sets (before «to_marks» «to_offsets» «to_lengths» «to_arena») (before marks offsets lengths arena) ⌝ }
 {
     outcome_numbers(byte_set_copy::copy(
         to_marks,
@@ -195,7 +196,7 @@ pub extern "C" fn moss_byte_set_step(
     walk: u64,
     budget: u64,
 ) -> Numbers
-    ensures { λ r. ⌜ r ≡ setStepOf (setMemory (now (marks .entry)) (now (offsets .entry)) (now (lengths .entry)) (now (arena .entry))) walk budget ⌝ }
+    ensures { λ r. ⌜ r ≡ setStepOf (before marks offsets lengths arena) walk budget ⌝ }
 {
     let from = Walk { at: walk as usize };
     step_numbers(from.step(marks, offsets, lengths, arena, budget))
@@ -211,7 +212,7 @@ pub extern "C" fn moss_byte_set_walk_on(
     walk: &mut u64,
     budget: u64,
 ) -> Numbers
-    ensures { λ r. ⌜ told r (now (walk .exit)) ≡ movedOn (setStepOf (setMemory (now (marks .entry)) (now (offsets .entry)) (now (lengths .entry)) (now (arena .entry))) (now (walk .entry)) budget) ⌝ }
+    ensures { λ r. ⌜ told r (now (walk .exit)) ≡ movedOn (setStepOf (before marks offsets lengths arena) (now (walk .entry)) budget) ⌝ }
 {
     let r = moss_byte_set_step(marks, offsets, lengths, arena, *walk, budget);
     *walk = r.walk;

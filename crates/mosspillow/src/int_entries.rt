@@ -2,10 +2,9 @@
 ghost use mathlib.Core.Path.{_≡_};
 ghost use lib.ListN.{length};
 ghost use Rattle.kinds.specs.Told.{told};
-ghost use Rattle.ints.specs.Memory.{memory};
 ghost use Rattle.int_handles.specs.Calls.{removeEntryOf};
 ghost use Rattle.kinds.specs.Calls.{heldOf, setOf, takenOf, standingOf, entryOf, orInsertOf, insertEntryOf};
-ghost use Rattle.ints.specs.Maps.{maps};
+ghost use Rattle.ints.specs.Maps.{maps, before, after};
 ghost use Rattle.numbers.specs.Handed.{handleAs};
 use answers::Numbers;
 use int_handles::Occupied;
@@ -26,7 +25,7 @@ pub extern "C" fn moss_int_map_entry(
     values: &[u64],
     key: u64,
 ) -> Numbers
-    ensures { λ r. ⌜ r ≡ entryOf maps (memory (now (marks .entry)) (now (keys .entry)) (now (values .entry))) key ⌝ }
+    ensures { λ r. ⌜ r ≡ entryOf maps (before marks keys values) key ⌝ }
 {
     entered_numbers(int_entry::entry(marks, keys, values, key))
 }
@@ -40,7 +39,7 @@ pub extern "C" fn moss_int_map_occupied_get(
     slot: u64,
     key: u64,
 ) -> Numbers
-    ensures { λ r. ⌜ r ≡ heldOf maps (memory (now (marks .entry)) (now (keys .entry)) (now (values .entry))) slot key ⌝ }
+    ensures { λ r. ⌜ r ≡ heldOf maps (before marks keys values) slot key ⌝ }
 {
     let handle = Occupied {
         slot: slot as usize,
@@ -58,7 +57,7 @@ pub extern "C" fn moss_int_map_occupied_set(
     key: u64,
     value: u64,
 ) -> Numbers
-    ensures { λ r. ⌜ told r (memory (now (marks .exit)) (now (keys .exit)) (now (values .exit))) ≡ setOf maps (memory (now (marks .entry)) (now (keys .entry)) (now (values .entry))) slot key value ⌝ }
+    ensures { λ r. ⌜ told r (after marks keys values) ≡ setOf maps (before marks keys values) slot key value ⌝ }
 {
     let handle = Occupied {
         slot: slot as usize,
@@ -75,7 +74,7 @@ pub extern "C" fn moss_int_map_occupied_remove(
     slot: u64,
     key: u64,
 ) -> Numbers
-    ensures { λ r. ⌜ told r (memory (now (marks .exit)) (now (keys .exit)) (now (values .exit))) ≡ takenOf maps (memory (now (marks .entry)) (now (keys .entry)) (now (values .entry))) slot key ⌝ }
+    ensures { λ r. ⌜ told r (after marks keys values) ≡ takenOf maps (before marks keys values) slot key ⌝ }
 {
     let handle = Occupied {
         slot: slot as usize,
@@ -92,7 +91,7 @@ pub extern "C" fn moss_int_map_occupied_remove_entry(
     slot: u64,
     key: u64,
 ) -> Numbers
-    ensures { λ r. ⌜ told r (memory (now (marks .exit)) (now (keys .exit)) (now (values .exit))) ≡ removeEntryOf (memory (now (marks .entry)) (now (keys .entry)) (now (values .entry))) slot key ⌝ }
+    ensures { λ r. ⌜ told r (after marks keys values) ≡ removeEntryOf (before marks keys values) slot key ⌝ }
 {
     let handle = Occupied {
         slot: slot as usize,
@@ -110,7 +109,7 @@ pub extern "C" fn moss_int_map_vacant_insert(
     key: u64,
     value: u64,
 ) -> Numbers
-    ensures { λ r. ⌜ told r (memory (now (marks .exit)) (now (keys .exit)) (now (values .exit))) ≡ standingOf maps (memory (now (marks .entry)) (now (keys .entry)) (now (values .entry))) slot key value ⌝ }
+    ensures { λ r. ⌜ told r (after marks keys values) ≡ standingOf maps (before marks keys values) slot key value ⌝ }
 {
     let handle = Vacant {
         slot: slot as usize,
@@ -129,7 +128,7 @@ pub extern "C" fn moss_int_map_or_insert(
     key: u64,
     default: u64,
 ) -> Numbers
-    ensures { λ r. ⌜ told r (memory (now (marks .exit)) (now (keys .exit)) (now (values .exit))) ≡ orInsertOf maps (memory (now (marks .entry)) (now (keys .entry)) (now (values .entry))) (handleAs (length (now (marks .entry))) case slot) key default ⌝ }
+    ensures { λ r. ⌜ told r (after marks keys values) ≡ orInsertOf maps (before marks keys values) (handleAs (length (now (marks .entry))) case slot) key default ⌝ }
 {
     let handle = entered(case, slot);
     standing_numbers(handle.or_insert(marks, keys, values, key, default))
@@ -146,7 +145,7 @@ pub extern "C" fn moss_int_map_insert_entry(
     key: u64,
     value: u64,
 ) -> Numbers
-    ensures { λ r. ⌜ told r (memory (now (marks .exit)) (now (keys .exit)) (now (values .exit))) ≡ insertEntryOf maps (memory (now (marks .entry)) (now (keys .entry)) (now (values .entry))) (handleAs (length (now (marks .entry))) case slot) key value ⌝ }
+    ensures { λ r. ⌜ told r (after marks keys values) ≡ insertEntryOf maps (before marks keys values) (handleAs (length (now (marks .entry))) case slot) key value ⌝ }
 {
     let handle = entered(case, slot);
     standing_numbers(handle.insert_entry(marks, keys, values, key, value))

@@ -2,10 +2,9 @@
 ghost use mathlib.Core.Path.{_≡_};
 ghost use Rattle.kinds.specs.Told.{told};
 ghost use Rattle.lent.specs.Moved.{movedOn};
-ghost use Rattle.ints.specs.Memory.{memory};
 ghost use Rattle.int_map.specs.Calls.{insertOf};
 ghost use Rattle.kinds.specs.Calls.{makeOf, removeOf, capacityOf, lenOf, isEmptyOf, reserveOf, getOf, containsOf, copyOf, unionOf};
-ghost use Rattle.ints.specs.Maps.{maps};
+ghost use Rattle.ints.specs.Maps.{maps, before, after};
 ghost use Rattle.int_walk.specs.Calls.{stepOf};
 use answers::Numbers;
 use answers::contained_numbers;
@@ -26,7 +25,7 @@ pub extern "C" fn moss_int_map_make(
     keys: &mut [u64],
     values: &mut [u64],
 ) -> Numbers
-    ensures { λ r. ⌜ told r (memory (now (marks .exit)) (now (keys .exit)) (now (values .exit))) ≡ makeOf maps (memory (now (marks .entry)) (now (keys .entry)) (now (values .entry))) ⌝ }
+    ensures { λ r. ⌜ told r (after marks keys values) ≡ makeOf maps (before marks keys values) ⌝ }
 {
     outcome_numbers(int_map::make(marks, keys, values))
 }
@@ -38,7 +37,7 @@ pub extern "C" fn moss_int_map_clear(
     keys: &mut [u64],
     values: &mut [u64],
 ) -> Numbers
-    ensures { λ r. ⌜ told r (memory (now (marks .exit)) (now (keys .exit)) (now (values .exit))) ≡ makeOf maps (memory (now (marks .entry)) (now (keys .entry)) (now (values .entry))) ⌝ }
+    ensures { λ r. ⌜ told r (after marks keys values) ≡ makeOf maps (before marks keys values) ⌝ }
 {
     outcome_numbers(int_map::clear(marks, keys, values))
 }
@@ -46,7 +45,7 @@ pub extern "C" fn moss_int_map_clear(
 // The number of slots.
 #[no_mangle]
 pub extern "C" fn moss_int_map_capacity(marks: &[u8], keys: &[u64], values: &[u64]) -> Numbers
-    ensures { λ r. ⌜ r ≡ capacityOf maps (memory (now (marks .entry)) (now (keys .entry)) (now (values .entry))) ⌝ }
+    ensures { λ r. ⌜ r ≡ capacityOf maps (before marks keys values) ⌝ }
 {
     counted_numbers(int_reads::capacity(marks, keys, values))
 }
@@ -54,7 +53,7 @@ pub extern "C" fn moss_int_map_capacity(marks: &[u8], keys: &[u64], values: &[u6
 // The number of keys.
 #[no_mangle]
 pub extern "C" fn moss_int_map_len(marks: &[u8], keys: &[u64], values: &[u64]) -> Numbers
-    ensures { λ r. ⌜ r ≡ lenOf maps (memory (now (marks .entry)) (now (keys .entry)) (now (values .entry))) ⌝ }
+    ensures { λ r. ⌜ r ≡ lenOf maps (before marks keys values) ⌝ }
 {
     counted_numbers(int_reads::len(marks, keys, values))
 }
@@ -62,7 +61,7 @@ pub extern "C" fn moss_int_map_len(marks: &[u8], keys: &[u64], values: &[u64]) -
 // Whether there is no key.
 #[no_mangle]
 pub extern "C" fn moss_int_map_is_empty(marks: &[u8], keys: &[u64], values: &[u64]) -> Numbers
-    ensures { λ r. ⌜ r ≡ isEmptyOf maps (memory (now (marks .entry)) (now (keys .entry)) (now (values .entry))) ⌝ }
+    ensures { λ r. ⌜ r ≡ isEmptyOf maps (before marks keys values) ⌝ }
 {
     emptiness_numbers(int_reads::is_empty(marks, keys, values))
 }
@@ -75,7 +74,7 @@ pub extern "C" fn moss_int_map_reserve(
     values: &[u64],
     asked: u64,
 ) -> Numbers
-    ensures { λ r. ⌜ r ≡ reserveOf maps (memory (now (marks .entry)) (now (keys .entry)) (now (values .entry))) asked ⌝ }
+    ensures { λ r. ⌜ r ≡ reserveOf maps (before marks keys values) asked ⌝ }
 {
     reserved_numbers(int_reads::reserve(marks, keys, values, asked))
 }
@@ -83,7 +82,7 @@ pub extern "C" fn moss_int_map_reserve(
 // The value of a key.
 #[no_mangle]
 pub extern "C" fn moss_int_map_get(marks: &[u8], keys: &[u64], values: &[u64], key: u64) -> Numbers
-    ensures { λ r. ⌜ r ≡ getOf maps (memory (now (marks .entry)) (now (keys .entry)) (now (values .entry))) key ⌝ }
+    ensures { λ r. ⌜ r ≡ getOf maps (before marks keys values) key ⌝ }
 {
     got_numbers(int_reads::get(marks, keys, values, key))
 }
@@ -96,7 +95,7 @@ pub extern "C" fn moss_int_map_contains_key(
     values: &[u64],
     key: u64,
 ) -> Numbers
-    ensures { λ r. ⌜ r ≡ containsOf maps (memory (now (marks .entry)) (now (keys .entry)) (now (values .entry))) key ⌝ }
+    ensures { λ r. ⌜ r ≡ containsOf maps (before marks keys values) key ⌝ }
 {
     contained_numbers(int_reads::contains_key(marks, keys, values, key))
 }
@@ -110,7 +109,7 @@ pub extern "C" fn moss_int_map_insert(
     key: u64,
     value: u64,
 ) -> Numbers
-    ensures { λ r. ⌜ told r (memory (now (marks .exit)) (now (keys .exit)) (now (values .exit))) ≡ insertOf (memory (now (marks .entry)) (now (keys .entry)) (now (values .entry))) key value ⌝ }
+    ensures { λ r. ⌜ told r (after marks keys values) ≡ insertOf (before marks keys values) key value ⌝ }
 {
     inserted_numbers(int_map::insert(marks, keys, values, key, value))
 }
@@ -123,7 +122,7 @@ pub extern "C" fn moss_int_map_remove(
     values: &mut [u64],
     key: u64,
 ) -> Numbers
-    ensures { λ r. ⌜ told r (memory (now (marks .exit)) (now (keys .exit)) (now (values .exit))) ≡ removeOf maps (memory (now (marks .entry)) (now (keys .entry)) (now (values .entry))) key ⌝ }
+    ensures { λ r. ⌜ told r (after marks keys values) ≡ removeOf maps (before marks keys values) key ⌝ }
 {
     removed_numbers(int_map::remove(marks, keys, values, key))
 }
@@ -138,7 +137,7 @@ pub extern "C" fn moss_int_map_copy(
     keys: &[u64],
     values: &[u64],
 ) -> Numbers
-    ensures { λ r. ⌜ told r (memory (now («to_marks» .exit)) (now («to_keys» .exit)) (now («to_values» .exit))) ≡ copyOf maps (memory (now («to_marks» .entry)) (now («to_keys» .entry)) (now («to_values» .entry))) (memory (now (marks .entry)) (now (keys .entry)) (now (values .entry))) ⌝ }
+    ensures { λ r. ⌜ told r (after «to_marks» «to_keys» «to_values») ≡ copyOf maps (before «to_marks» «to_keys» «to_values») (before marks keys values) ⌝ }
 {
     outcome_numbers(int_copy::copy(to_marks, to_keys, to_values, marks, keys, values))
 }
@@ -153,7 +152,7 @@ pub extern "C" fn moss_int_map_union_prefer_right(
     right_keys: &[u64],
     right_values: &[u64],
 ) -> Numbers
-    ensures { λ r. ⌜ told r (memory (now (marks .exit)) (now (keys .exit)) (now (values .exit))) ≡ unionOf maps (memory (now (marks .entry)) (now (keys .entry)) (now (values .entry))) (memory (now («right_marks» .entry)) (now («right_keys» .entry)) (now («right_values» .entry))) ⌝ }
+    ensures { λ r. ⌜ told r (after marks keys values) ≡ unionOf maps (before marks keys values) (before «right_marks» «right_keys» «right_values») ⌝ }
 {
     outcome_numbers(int_union::union_prefer_right(
         marks,
@@ -182,7 +181,7 @@ pub extern "C" fn moss_int_map_step(
     walk: u64,
     budget: u64,
 ) -> Numbers
-    ensures { λ r. ⌜ r ≡ stepOf (memory (now (marks .entry)) (now (keys .entry)) (now (values .entry))) walk budget ⌝ }
+    ensures { λ r. ⌜ r ≡ stepOf (before marks keys values) walk budget ⌝ }
 {
     let from = Walk { at: walk as usize };
     step_numbers(from.step(marks, keys, values, budget))
@@ -197,7 +196,7 @@ pub extern "C" fn moss_int_map_walk_on(
     walk: &mut u64,
     budget: u64,
 ) -> Numbers
-    ensures { λ r. ⌜ told r (now (walk .exit)) ≡ movedOn (stepOf (memory (now (marks .entry)) (now (keys .entry)) (now (values .entry))) (now (walk .entry)) budget) ⌝ }
+    ensures { λ r. ⌜ told r (now (walk .exit)) ≡ movedOn (stepOf (before marks keys values) (now (walk .entry)) budget) ⌝ }
 {
     let r = moss_int_map_step(marks, keys, values, *walk, budget);
     *walk = r.walk;

@@ -2,7 +2,7 @@
 ghost use mathlib.Core.Path.{_≡_};
 ghost use Rattle.kinds.specs.Told.{told};
 ghost use Rattle.lent.specs.Moved.{movedOn};
-ghost use Rattle.ints.specs.Sets.{sets, memory};
+ghost use Rattle.ints.specs.Sets.{sets, before, after};
 ghost use Rattle.int_set.specs.Calls.{insertOf};
 ghost use Rattle.kinds.specs.Calls.{makeOf, droppedOf, capacityOf, lenOf, isEmptyOf, reserveOf, containsOf, copyOf};
 ghost use Rattle.int_set_reads.specs.Calls.{getOf};
@@ -22,7 +22,7 @@ use numbers::int_sets::step_numbers;
 // Makes an empty set of the lent arrays.
 #[no_mangle]
 pub extern "C" fn moss_int_set_make(marks: &mut [u8], keys: &mut [u64]) -> Numbers
-    ensures { λ r. ⌜ told r (memory (now (marks .exit)) (now (keys .exit))) ≡ makeOf sets (memory (now (marks .entry)) (now (keys .entry))) ⌝ }
+    ensures { λ r. ⌜ told r (after marks keys) ≡ makeOf sets (before marks keys) ⌝ }
 {
     outcome_numbers(int_set::make(marks, keys))
 }
@@ -30,7 +30,7 @@ pub extern "C" fn moss_int_set_make(marks: &mut [u8], keys: &mut [u64]) -> Numbe
 // Empties a set.
 #[no_mangle]
 pub extern "C" fn moss_int_set_clear(marks: &mut [u8], keys: &mut [u64]) -> Numbers
-    ensures { λ r. ⌜ told r (memory (now (marks .exit)) (now (keys .exit))) ≡ makeOf sets (memory (now (marks .entry)) (now (keys .entry))) ⌝ }
+    ensures { λ r. ⌜ told r (after marks keys) ≡ makeOf sets (before marks keys) ⌝ }
 {
     outcome_numbers(int_set::clear(marks, keys))
 }
@@ -38,7 +38,7 @@ pub extern "C" fn moss_int_set_clear(marks: &mut [u8], keys: &mut [u64]) -> Numb
 // The number of slots.
 #[no_mangle]
 pub extern "C" fn moss_int_set_capacity(marks: &[u8], keys: &[u64]) -> Numbers
-    ensures { λ r. ⌜ r ≡ capacityOf sets (memory (now (marks .entry)) (now (keys .entry))) ⌝ }
+    ensures { λ r. ⌜ r ≡ capacityOf sets (before marks keys) ⌝ }
 {
     counted_numbers(int_set_reads::capacity(marks, keys))
 }
@@ -46,7 +46,7 @@ pub extern "C" fn moss_int_set_capacity(marks: &[u8], keys: &[u64]) -> Numbers
 // The number of keys.
 #[no_mangle]
 pub extern "C" fn moss_int_set_len(marks: &[u8], keys: &[u64]) -> Numbers
-    ensures { λ r. ⌜ r ≡ lenOf sets (memory (now (marks .entry)) (now (keys .entry))) ⌝ }
+    ensures { λ r. ⌜ r ≡ lenOf sets (before marks keys) ⌝ }
 {
     counted_numbers(int_set_reads::len(marks, keys))
 }
@@ -54,7 +54,7 @@ pub extern "C" fn moss_int_set_len(marks: &[u8], keys: &[u64]) -> Numbers
 // Whether there is no key.
 #[no_mangle]
 pub extern "C" fn moss_int_set_is_empty(marks: &[u8], keys: &[u64]) -> Numbers
-    ensures { λ r. ⌜ r ≡ isEmptyOf sets (memory (now (marks .entry)) (now (keys .entry))) ⌝ }
+    ensures { λ r. ⌜ r ≡ isEmptyOf sets (before marks keys) ⌝ }
 {
     emptiness_numbers(int_set_reads::is_empty(marks, keys))
 }
@@ -62,7 +62,7 @@ pub extern "C" fn moss_int_set_is_empty(marks: &[u8], keys: &[u64]) -> Numbers
 // Whether so many slots are not live.
 #[no_mangle]
 pub extern "C" fn moss_int_set_reserve(marks: &[u8], keys: &[u64], asked: u64) -> Numbers
-    ensures { λ r. ⌜ r ≡ reserveOf sets (memory (now (marks .entry)) (now (keys .entry))) asked ⌝ }
+    ensures { λ r. ⌜ r ≡ reserveOf sets (before marks keys) asked ⌝ }
 {
     reserved_numbers(int_set_reads::reserve(marks, keys, asked))
 }
@@ -70,7 +70,7 @@ pub extern "C" fn moss_int_set_reserve(marks: &[u8], keys: &[u64], asked: u64) -
 // The key, where it is there.
 #[no_mangle]
 pub extern "C" fn moss_int_set_get(marks: &[u8], keys: &[u64], key: u64) -> Numbers
-    ensures { λ r. ⌜ r ≡ getOf (memory (now (marks .entry)) (now (keys .entry))) key ⌝ }
+    ensures { λ r. ⌜ r ≡ getOf (before marks keys) key ⌝ }
 {
     member_numbers(int_set_reads::get(marks, keys, key))
 }
@@ -78,7 +78,7 @@ pub extern "C" fn moss_int_set_get(marks: &[u8], keys: &[u64], key: u64) -> Numb
 // Whether a key is there.
 #[no_mangle]
 pub extern "C" fn moss_int_set_contains(marks: &[u8], keys: &[u64], key: u64) -> Numbers
-    ensures { λ r. ⌜ r ≡ containsOf sets (memory (now (marks .entry)) (now (keys .entry))) key ⌝ }
+    ensures { λ r. ⌜ r ≡ containsOf sets (before marks keys) key ⌝ }
 {
     contained_numbers(int_set_reads::contains(marks, keys, key))
 }
@@ -86,7 +86,7 @@ pub extern "C" fn moss_int_set_contains(marks: &[u8], keys: &[u64], key: u64) ->
 // Puts a key in.
 #[no_mangle]
 pub extern "C" fn moss_int_set_insert(marks: &mut [u8], keys: &mut [u64], key: u64) -> Numbers
-    ensures { λ r. ⌜ told r (memory (now (marks .exit)) (now (keys .exit))) ≡ insertOf (memory (now (marks .entry)) (now (keys .entry))) key ⌝ }
+    ensures { λ r. ⌜ told r (after marks keys) ≡ insertOf (before marks keys) key ⌝ }
 {
     added_numbers(int_set::insert(marks, keys, key))
 }
@@ -94,7 +94,7 @@ pub extern "C" fn moss_int_set_insert(marks: &mut [u8], keys: &mut [u64], key: u
 // Takes a key out.
 #[no_mangle]
 pub extern "C" fn moss_int_set_remove(marks: &mut [u8], keys: &mut [u64], key: u64) -> Numbers
-    ensures { λ r. ⌜ told r (memory (now (marks .exit)) (now (keys .exit))) ≡ droppedOf sets (memory (now (marks .entry)) (now (keys .entry))) key ⌝ }
+    ensures { λ r. ⌜ told r (after marks keys) ≡ droppedOf sets (before marks keys) key ⌝ }
 {
     dropped_numbers(int_set::remove(marks, keys, key))
 }
@@ -107,7 +107,7 @@ pub extern "C" fn moss_int_set_copy(
     marks: &[u8],
     keys: &[u64],
 ) -> Numbers
-    ensures { λ r. ⌜ told r (memory (now («to_marks» .exit)) (now («to_keys» .exit))) ≡ copyOf sets (memory (now («to_marks» .entry)) (now («to_keys» .entry))) (memory (now (marks .entry)) (now (keys .entry))) ⌝ }
+    ensures { λ r. ⌜ told r (after «to_marks» «to_keys») ≡ copyOf sets (before «to_marks» «to_keys») (before marks keys) ⌝ }
 {
     outcome_numbers(int_set_copy::copy(to_marks, to_keys, marks, keys))
 }
@@ -123,7 +123,7 @@ pub extern "C" fn moss_int_set_walk_start() -> u64
 // One step of a walk with a budget of slots.
 #[no_mangle]
 pub extern "C" fn moss_int_set_step(marks: &[u8], keys: &[u64], walk: u64, budget: u64) -> Numbers
-    ensures { λ r. ⌜ r ≡ stepOf (memory (now (marks .entry)) (now (keys .entry))) walk budget ⌝ }
+    ensures { λ r. ⌜ r ≡ stepOf (before marks keys) walk budget ⌝ }
 {
     let from = Walk { at: walk as usize };
     step_numbers(from.step(marks, keys, budget))
@@ -137,7 +137,7 @@ pub extern "C" fn moss_int_set_walk_on(
     walk: &mut u64,
     budget: u64,
 ) -> Numbers
-    ensures { λ r. ⌜ told r (now (walk .exit)) ≡ movedOn (stepOf (memory (now (marks .entry)) (now (keys .entry))) (now (walk .entry)) budget) ⌝ }
+    ensures { λ r. ⌜ told r (now (walk .exit)) ≡ movedOn (stepOf (before marks keys) (now (walk .entry)) budget) ⌝ }
 {
     let r = moss_int_set_step(marks, keys, *walk, budget);
     *walk = r.walk;

@@ -5,6 +5,8 @@ pub mod Memory
 pub mod Places
 pub mod Sound
 pub mod Kinds
+pub mod Maps
+pub mod Sets
 pub mod Planning
 pub mod Probing
 pub mod Scanning

@@ -3,12 +3,14 @@ use Prim.Native.Nat.{ℕ, zero, suc, _+_, _-_, _≤_, _<_}
 use mathlib.Core.Bool.{Bool, true, false, cond, _&&_}
 use mathlib.Core.List.{List, [], _∷_, _++_}
 use mathlib.Core.Path.{_≡_}
+use denote.Ref.{RefT, now}
 use lib.Dec.{eqb, ltb, leb}
 use lib.ListN.{length, getD, take, drop, set, replicate}
 use Rattle.model.specs.Slots.{Slot, never, freed, bad, live, Table, total, damaged}
 use Rattle.model.specs.Store.{Store}
 use Rattle.digest.specs.Home.{homeOf, slotsFit, keyFits}
 use Rattle.kinds.specs.Columns.{Column}
+use Rattle.kinds.specs.Lent.{Lent}
 use Rattle.spans.specs.Keys.{byteKeys}
 
 -- The most bytes that an arena has.
@@ -173,3 +175,13 @@ spansOf marks offsets lengths arena = record { marks = marks; offsets = offsets;
 
 abbrev pub memory : {W : Type 0} (C : Column W) → List ℕ → List ℕ → List ℕ → List ℕ → C .Words → Strings C
 memory C marks offsets lengths arena words = record { spans = spansOf marks offsets lengths arena; words = words }
+
+-- The lent arrays without values, as the contracts name them: at one moment; when a call starts, and when it ends.
+abbrev pub spansNow : RefT (List ℕ) → RefT (List ℕ) → RefT (List ℕ) → RefT (List ℕ) → Spans
+spansNow marks offsets lengths arena = spansOf (now marks) (now offsets) (now lengths) (now arena)
+
+abbrev pub spansBefore : Lent → Lent → Lent → Lent → Spans
+spansBefore marks offsets lengths arena = spansNow (marks .entry) (offsets .entry) (lengths .entry) (arena .entry)
+
+abbrev pub spansAfter : Lent → Lent → Lent → Lent → Spans
+spansAfter marks offsets lengths arena = spansNow (marks .exit) (offsets .exit) (lengths .exit) (arena .exit)

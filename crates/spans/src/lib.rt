@@ -6,7 +6,7 @@ ghost use lib.Dec.{eqb, leb};
 ghost use lib.ListN.{length, getD, set, take, drop};
 ghost use Rattle.lists.specs.Bytes.{le};
 ghost use Rattle.spans.specs.Keys.{sameBytes};
-ghost use Rattle.spans.specs.Memory.{spansOf, fitting, askedOf, keptOf};
+ghost use Rattle.spans.specs.Memory.{spansNow, spansBefore, fitting, askedOf, keptOf};
 ghost use Rattle.spans.specs.Marks.{markAt};
 ghost use Rattle.spans.specs.Probing.{sightAt, pathFrom, probing};
 ghost use Rattle.spans.specs.Planning.{placedBy, placing, locatedBy, locating};
@@ -77,7 +77,7 @@ pub fn put_len(lengths: &mut [u8], i: usize, n: usize)
 // The mark of slot i: a live span past the arena is damage, shown as 3.
 pub fn mark_at(marks: &[u8], offsets: &[u16], lengths: &[u8], arena: &[u8], i: usize) -> u8
     requires { ⌜ (i < length (now marks)) × (length (now offsets) ≡ length (now marks)) × (length (now lengths) ≡ length (now marks)) ⌝ }
-    ensures { λ r. ⌜ r ≡ markAt (spansOf (now (marks .entry)) (now (offsets .entry)) (now (lengths .entry)) (now (arena .entry))) i ⌝ }
+    ensures { λ r. ⌜ r ≡ markAt (spansBefore marks offsets lengths arena) i ⌝ }
 {
     let mark = marks[i];
     if mark == 1 {
@@ -91,7 +91,7 @@ pub fn mark_at(marks: &[u8], offsets: &[u16], lengths: &[u8], arena: &[u8], i: u
 
 // Whether marks, offsets and lengths are of one length that a table may have, and the arena of a size that it may have.
 pub fn fits(marks: &[u8], offsets: &[u16], lengths: &[u8], arena: &[u8]) -> bool
-    ensures { λ r. ⌜ r ≡ fitting (spansOf (now (marks .entry)) (now (offsets .entry)) (now (lengths .entry)) (now (arena .entry))) ⌝ }
+    ensures { λ r. ⌜ r ≡ fitting (spansBefore marks offsets lengths arena) ⌝ }
 {
     if slots_fit(marks.len() as u64) {
         if marks.len() == offsets.len() {
@@ -185,7 +185,7 @@ pub fn look(
     key: &[u8],
 ) -> Sight
     requires { ⌜ (slot < length (now marks)) × (length (now offsets) ≡ length (now marks)) × (length (now lengths) ≡ length (now marks)) ⌝ }
-    ensures { λ r. ⌜ r ≡ sightAt (spansOf (now (marks .entry)) (now (offsets .entry)) (now (lengths .entry)) (now (arena .entry))) (now (key .entry)) slot ⌝ }
+    ensures { λ r. ⌜ r ≡ sightAt (spansBefore marks offsets lengths arena) (now (key .entry)) slot ⌝ }
 {
     let mark = marks[slot];
     if mark == 1 {
@@ -218,7 +218,7 @@ fn walk_path(
     home: usize,
 ) -> Probed
     requires { ⌜ (home < length (now marks)) × (length (now offsets) ≡ length (now marks)) × (length (now lengths) ≡ length (now marks)) ⌝ }
-    ensures { λ r. ⌜ r ≡ pathFrom (spansOf (now (marks .entry)) (now (offsets .entry)) (now (lengths .entry)) (now (arena .entry))) home (now (key .entry)) ⌝ }
+    ensures { λ r. ⌜ r ≡ pathFrom (spansBefore marks offsets lengths arena) home (now (key .entry)) ⌝ }
 {
     let size = marks.len();
     let mut slot = home;
@@ -245,7 +245,7 @@ fn walk_path(
 
 // The probing of a key: refusal 1 or 2, or what its path found.
 pub fn probe(marks: &[u8], offsets: &[u16], lengths: &[u8], arena: &[u8], key: &[u8]) -> Probed
-    ensures { λ r. ⌜ r ≡ probing (spansOf (now (marks .entry)) (now (offsets .entry)) (now (lengths .entry)) (now (arena .entry))) (now (key .entry)) ⌝ }
+    ensures { λ r. ⌜ r ≡ probing (spansBefore marks offsets lengths arena) (now (key .entry)) ⌝ }
 {
     if fits(marks, offsets, lengths, arena) {
         if may_ask(key) {
@@ -260,7 +260,7 @@ pub fn probe(marks: &[u8], offsets: &[u16], lengths: &[u8], arena: &[u8], key: &
 // The scan of all slots: damage, else the number of live slots.
 pub fn scan(marks: &[u8], offsets: &[u16], lengths: &[u8], arena: &[u8]) -> Scanned
     requires { ⌜ (length (now offsets) ≡ length (now marks)) × (length (now lengths) ≡ length (now marks)) ⌝ }
-    ensures { λ r. ⌜ r ≡ scanning (spansOf (now (marks .entry)) (now (offsets .entry)) (now (lengths .entry)) (now (arena .entry))) ⌝ }
+    ensures { λ r. ⌜ r ≡ scanning (spansBefore marks offsets lengths arena) ⌝ }
 {
     let mut live = 0;
     let mut i = 0;
@@ -285,7 +285,7 @@ pub fn next_live(
     end: usize,
 ) -> Next
     requires { ⌜ (end ≤ length (now marks)) × (length (now offsets) ≡ length (now marks)) × (length (now lengths) ≡ length (now marks)) ⌝ }
-    ensures { λ r. ⌜ r ≡ nexting (spansOf (now (marks .entry)) (now (offsets .entry)) (now (lengths .entry)) (now (arena .entry))) at end ⌝ }
+    ensures { λ r. ⌜ r ≡ nexting (spansBefore marks offsets lengths arena) at end ⌝ }
 {
     let mut i = at;
     while i < end {
@@ -313,8 +313,8 @@ fn higher_end(end: usize, top: usize) -> usize
 
 // The survey of all slots: full damage, else `used`. No live span ends past the arena where none ends beyond `used`, and that is no more.
 pub fn survey(marks: &[u8], offsets: &[u16], lengths: &[u8], arena: &[u8]) -> Surveyed
-    requires { ⌜ fitting (spansOf (now marks) (now offsets) (now lengths) (now arena)) ≡ true ⌝ }
-    ensures { λ r. ⌜ r ≡ surveying (spansOf (now (marks .entry)) (now (offsets .entry)) (now (lengths .entry)) (now (arena .entry))) ⌝ }
+    requires { ⌜ fitting (spansNow marks offsets lengths arena) ≡ true ⌝ }
+    ensures { λ r. ⌜ r ≡ surveying (spansBefore marks offsets lengths arena) ⌝ }
 {
     let mut used = 0;
     let mut top = 0;
@@ -359,7 +359,7 @@ fn placed_by(found: Probed, used: usize, size: usize, length: usize) -> Placed
 
 // The plan of a call that stores a key: its tests in order, then what its path says.
 pub fn place(marks: &[u8], offsets: &[u16], lengths: &[u8], arena: &[u8], key: &[u8]) -> Placed
-    ensures { λ r. ⌜ r ≡ placing (spansOf (now (marks .entry)) (now (offsets .entry)) (now (lengths .entry)) (now (arena .entry))) (now (key .entry)) ⌝ }
+    ensures { λ r. ⌜ r ≡ placing (spansBefore marks offsets lengths arena) (now (key .entry)) ⌝ }
 {
     if fits(marks, offsets, lengths, arena) {
         if may_keep(key) {
@@ -392,7 +392,7 @@ fn located_by(found: Probed, used: usize) -> Located
 
 // The plan of remove: its tests in order, then what its path says.
 pub fn locate(marks: &[u8], offsets: &[u16], lengths: &[u8], arena: &[u8], key: &[u8]) -> Located
-    ensures { λ r. ⌜ r ≡ locating (spansOf (now (marks .entry)) (now (offsets .entry)) (now (lengths .entry)) (now (arena .entry))) (now (key .entry)) ⌝ }
+    ensures { λ r. ⌜ r ≡ locating (spansBefore marks offsets lengths arena) (now (key .entry)) ⌝ }
 {
     if fits(marks, offsets, lengths, arena) {
         if may_ask(key) {
