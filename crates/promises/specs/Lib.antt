@@ -1,5 +1,6 @@
--- The published calls of each kind.
+-- The published calls of each kind, and what a slot's raw words say.
 pub mod IntMap
 pub mod IntSet
 pub mod ByteSet
 pub mod ByteMap
+pub mod Marks
