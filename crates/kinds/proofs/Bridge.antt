@@ -1,4 +1,6 @@
 -- What the answers over marks and keys say of the calls' definitions, for any store whose slots stand so.
+-- A slot stops a path, is free, is damaged and counts by its mark and key alone, whatever value stands beside it. So a loop that looks at marks and keys
+-- answers as the theory does over whole slots, and the value is read once at the end.
 use Prim.Native.Nat.{ℕ, zero, suc, _+_, _-_, _≤_, _<_}
 use mathlib.Core.Bool.{Bool, true, false, cond}
 use mathlib.Core.Path.{_≡_, refl, sym, _∙_, ap, fun-ext}

@@ -1,4 +1,6 @@
 -- A table whose map is known: what the calls of the theory say, told by any numbers, is what they owe; and the runs of published calls.
+-- Each law takes a function that tells a call's answer, with what it tells of a refusal and of each case; a kind gives these by `refl`.
+-- What the theory answers on a table that shows a map is exact (model/proofs/Exact.antt), so telling it is what is owed.
 use Prim.Native.Nat.{ℕ, zero, suc, _-_, _<_}
 use mathlib.Core.Bool.{true, false, cond, not, _&&_}
 use mathlib.Core.Option.{Option, none, some}

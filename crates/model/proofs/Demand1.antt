@@ -1,4 +1,6 @@
 -- Demand 1: on any memory the answer's number is the first of the call's rows that applies, and a refused call leaves the memory as it was.
+-- A call is a chain of tests, and its rows stand in the same order: one law peels a test off the call and its row off the list.
+-- What is left at a path goes by how it ended (`Told`): hit, missed or hurt, each with what it says of the examined slots.
 use Prim.Native.Nat.{ℕ, zero, suc, _+_, _-_, _≤_, _<_}
 use mathlib.Core.Bool.{Bool, true, false, not}
 use mathlib.Core.List.{List, [], _∷_}

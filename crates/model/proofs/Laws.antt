@@ -1,4 +1,6 @@
 -- The laws that a manual prints: each a short statement in the scope's words, over any store, and over any lawful store where a table must be sound.
+-- Most of them rest on one fact: on a table that shows a map, the path of a key finds it, or ends without it (`path-of`).
+-- A law unfolds one call, goes by these two cases, and reads the answer off; laws on any memory go by how the path ended.
 use Prim.Native.Nat.{ℕ, zero, suc, _+_, _-_, _≤_, _<_, min}
 use mathlib.Core.Bool.{Bool, true, false, cond, not}
 use mathlib.Core.List.{List, [], _∷_}

@@ -1,4 +1,6 @@
 -- Laws of the path: what `from` gives, that `at` visits each slot once, and that the path slot by slot is the path.
+-- `from` gives the first number that passes a test. Four facts of it (at least the start, at most the end, none before passes, itself passes) give the other
+-- laws with no induction of their own. The path slot by slot equals it by induction on the slots that are left, with the first free slot carried along.
 use Prim.Native.Nat.{ℕ, zero, suc, _+_, _-_, _≤_, _<_}
 use mathlib.Core.Bool.{Bool, true, false, cond}
 use mathlib.Core.Path.{_≡_, refl, sym, _∙_, ap, subst}

@@ -1,4 +1,6 @@
 -- The tables of any lawful store, for demand 3: what is known of them stays so, and no call but make, clear and copy moves a key of a known table.
+-- A call leaves a memory as it was, or changes one slot of it (`Changed`), or makes it anew. A changed slot keeps every other live key in its place,
+-- so a key that is still in the map stands where it stood (`Stood`). What is known of the maps is carried along by `left-shows`.
 use Prim.Native.Nat.{ℕ, zero, suc, _+_, _≤_, _<_}
 use mathlib.Core.Bool.{Bool, true, false, cond, not, _&&_}
 use mathlib.Core.List.{List, [], _∷_, _++_}

@@ -1,4 +1,6 @@
 -- What a byte table's slots, spans and `used` are after a key is put into a slot, a slot is freed, and all is wiped.
+-- Each write changes one slot and leaves every other live slot its bytes, which it is asked for span by span (`Stays`); then the slots are changed there alone
+-- (`changed`), `used` changes by that slot's weight, and sound spans stay sound.
 use Prim.Native.Nat.{ℕ, zero, suc, _+_, _-_, _≤_, _<_}
 use mathlib.Core.Bool.{true, false, _&&_}
 use mathlib.Core.List.{List, [], _∷_}
