@@ -39,7 +39,7 @@ struct maker {
     __typeof__(moss_byte_map_get) *byte_get;
     __typeof__(moss_byte_map_insert) *byte_insert;
     __typeof__(moss_byte_map_remove) *byte_remove;
-    __typeof__(moss_byte_map_union_prefer_right) *byte_union;
+    __typeof__(moss_byte_map_union_prefer_right) *byte_map_union;
 };
 
 /* An empty function: as x86-64 calls go, it hands back the place of the answer and leaves that as it was. */
@@ -127,7 +127,7 @@ static uint64_t int_pair(size_t i)
 }
 
 /* A walk over all: a step for each key. */
-static uint64_t int_walk(size_t i)
+static uint64_t int_map_walk(size_t i)
 {
     (void)i;
     moss_answer answer = {.walk = 0};
@@ -159,13 +159,13 @@ static uint64_t byte_oldest(size_t i)
 static uint64_t union_present(size_t i)
 {
     (void)i;
-    return maker->byte_union(SPANS(left), SPANS(right)).which;
+    return maker->byte_map_union(SPANS(left), SPANS(right)).which;
 }
 
 static uint64_t union_absent(size_t i)
 {
     (void)i;
-    uint64_t told = maker->byte_union(SPANS(left), SPANS(right)).which;
+    uint64_t told = maker->byte_map_union(SPANS(left), SPANS(right)).which;
     restore();
     return told;
 }
@@ -211,7 +211,7 @@ static const struct call calls[] = {
     {"int-get-hit", 0, PRESENT, 0, int_get, MOSS_FOUND, other_int_get, 1},
     {"int-get-miss", 0, ABSENT_KEYS, 0, int_get, MOSS_ABSENT, other_int_get, 0},
     {"int-insert-remove", 0, ABSENT_KEYS, 0, int_pair, MOSS_FRESH + MOSS_REMOVED, other_int_pair, 1},
-    {"int-walk", 0, PRESENT, 0, int_walk, MOSS_PAIR, NULL, 0},
+    {"int-walk", 0, PRESENT, 0, int_map_walk, MOSS_PAIR, NULL, 0},
     {"byte8-get-hit", 8, PRESENT, 0, byte_get, MOSS_FOUND, other_byte_get, 1},
     {"byte8-get-miss", 8, ABSENT_KEYS, 0, byte_get, MOSS_ABSENT, other_byte_get, 0},
     {"byte32-get-hit", 32, PRESENT, 0, byte_get, MOSS_FOUND, other_byte_get, 1},

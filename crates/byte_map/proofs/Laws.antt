@@ -14,14 +14,14 @@ use Rattle.answers.specs.Said.{storedSaid, removedSaid}
 use Rattle.kinds.specs.Columns.{values}
 use Rattle.kinds.specs.Told.{told}
 use Rattle.kinds.specs.Calls.{makeOf, removeOf}
-use Rattle.spans.specs.declared.Placed.{Placed}
-use Rattle.spans.specs.declared.Placed.the-variants as placed
-use Rattle.spans.specs.declared.Located.{Located}
-use Rattle.spans.specs.declared.Located.the-variants as located
-use Rattle.spans.specs.Memory.{Spans, Strings, filled, emptied, wiped}
-use Rattle.spans.specs.Kinds.{maps, insertOf}
-use Rattle.spans.proofs.Bridge.{spotOf, lostOf}
-use Rattle.byte_reads.specs.Seeking.{sizedOf}
+use Rattle.byte_slots.specs.declared.Placed.{Placed}
+use Rattle.byte_slots.specs.declared.Placed.the-variants as placed
+use Rattle.byte_slots.specs.declared.Located.{Located}
+use Rattle.byte_slots.specs.declared.Located.the-variants as located
+use Rattle.byte_slots.specs.Memory.{Spans, Strings, filled, emptied, wiped}
+use Rattle.byte_slots.specs.Kinds.{maps, insertOf}
+use Rattle.byte_slots.proofs.Bridge.{spotOf, lostOf}
+use Rattle.byte_map_reads.specs.Seeking.{sizedOf}
 use Rattle.byte_map.specs.Planning.{placingMap, locatingMap}
 use Rattle.byte_map.proofs.Making as making
 use Rattle.byte_map.proofs.Planning.{entry-planned, remove-planned, place-free}

@@ -9,8 +9,8 @@ use Rattle.answers.specs.Numbers.{outcomeNumbers}
 use Rattle.answers.specs.Said.{doneSaid}
 use Rattle.kinds.specs.Told.{told}
 use Rattle.kinds.specs.Calls.{makeOf}
-use Rattle.byte_reads.specs.Seeking.{sizedOf}
-use Rattle.byte_reads.proofs.Counting.{sized-as}
+use Rattle.byte_map_reads.specs.Seeking.{sizedOf}
+use Rattle.byte_map_reads.proofs.Counting.{sized-as}
 
 module _ {K W : Type 0} (M : Store K W) (m : M .State) {b : Bool} (p : b ≡ sizedOf M m) where
   pub make-done : b ≡ true → {x : M .State} → x ≡ M .wipe m → told (outcomeNumbers outcome.Done) x ≡ makeOf M m

@@ -13,18 +13,18 @@ use Rattle.answers.specs.declared.Refusal.the-variants.{Sizes}
 use Rattle.kinds.specs.declared.Probed.{Probed}
 use Rattle.kinds.specs.declared.Probed.the-variants as probed
 use Rattle.kinds.specs.Columns.{values}
-use Rattle.spans.specs.declared.Placed.{Placed}
-use Rattle.spans.specs.declared.Placed.the-variants as placed
-use Rattle.spans.specs.declared.Located.{Located}
-use Rattle.spans.specs.declared.Located.the-variants as located
-use Rattle.spans.specs.Memory.{Strings, fitting, harmful, usedOf, keptOf}
-use Rattle.spans.specs.Kinds.{maps}
-use Rattle.spans.specs.Probing.{pathOf}
-use Rattle.spans.specs.Planning.{placedBy, roomFor, placing, locating}
-use Rattle.spans.proofs.Bridge.{spotOf, lostOf, short-refused, path-inside, remove-locating, entry-placing}
-use Rattle.arena.specs.Needs.{Fillable, Freeable}
-use Rattle.arena.proofs.Plans.{place-fillable, locate-freeable}
-use Rattle.byte_reads.proofs.Seeking.{long-is, short-is, by-long, long-only}
+use Rattle.byte_slots.specs.declared.Placed.{Placed}
+use Rattle.byte_slots.specs.declared.Placed.the-variants as placed
+use Rattle.byte_slots.specs.declared.Located.{Located}
+use Rattle.byte_slots.specs.declared.Located.the-variants as located
+use Rattle.byte_slots.specs.Memory.{Strings, fitting, harmful, usedOf, keptOf}
+use Rattle.byte_slots.specs.Kinds.{maps}
+use Rattle.byte_slots.specs.Probing.{pathOf}
+use Rattle.byte_slots.specs.Planning.{placedBy, roomFor, placing, locating}
+use Rattle.byte_slots.proofs.Bridge.{spotOf, lostOf, short-refused, path-inside, remove-locating, entry-placing}
+use Rattle.byte_arena.specs.Needs.{Fillable, Freeable}
+use Rattle.byte_arena.proofs.Plans.{place-fillable, locate-freeable}
+use Rattle.byte_map_reads.proofs.Seeking.{long-is, short-is, by-long, long-only}
 use Rattle.byte_map.specs.Planning.{placingMap, locatingMap}
 
 -- a plan that found the key has its slot from the path

@@ -7,8 +7,8 @@ use Rattle.kinds.specs.Columns.{values}
 use Rattle.kinds.specs.Told.{SettledWith}
 use Rattle.kinds.specs.Calls.{makeOf, removeOf}
 use Rattle.kinds.proofs.Settled.{settled-with}
-use Rattle.spans.specs.Memory.{Strings}
-use Rattle.spans.specs.Kinds.{maps, insertOf}
+use Rattle.byte_slots.specs.Memory.{Strings}
+use Rattle.byte_slots.specs.Kinds.{maps, insertOf}
 
 module _ (m : Strings values) where
   -- `make`.

@@ -3,13 +3,13 @@ use Prim.Native.Nat.{ℕ}
 use mathlib.Core.List.{List}
 use Rattle.answers.specs.declared.Refusal.the-variants.{Sizes}
 use Rattle.kinds.specs.Columns.{values}
-use Rattle.spans.specs.declared.Placed.{Placed}
-use Rattle.spans.specs.declared.Placed.the-variants as placed
-use Rattle.spans.specs.declared.Located.{Located}
-use Rattle.spans.specs.declared.Located.the-variants as located
-use Rattle.spans.specs.Memory.{Strings}
-use Rattle.spans.specs.Planning.{placing, locating}
-use Rattle.byte_reads.specs.Seeking.{whereLong}
+use Rattle.byte_slots.specs.declared.Placed.{Placed}
+use Rattle.byte_slots.specs.declared.Placed.the-variants as placed
+use Rattle.byte_slots.specs.declared.Located.{Located}
+use Rattle.byte_slots.specs.declared.Located.the-variants as located
+use Rattle.byte_slots.specs.Memory.{Strings}
+use Rattle.byte_slots.specs.Planning.{placing, locating}
+use Rattle.byte_map_reads.specs.Seeking.{whereLong}
 
 -- The plan of insert.
 unfoldable pub placingMap : Strings values → List ℕ → Placed

@@ -3,20 +3,20 @@ ghost use mathlib.Core.Path.{_≡_};
 ghost use Rattle.answers.specs.Numbers.{outcomeNumbers, storedNumbers, removedNumbers};
 ghost use Rattle.kinds.specs.Told.{told};
 ghost use Rattle.kinds.specs.Calls.{makeOf, removeOf};
-ghost use Rattle.spans.specs.Kinds.{maps, insertOf};
-ghost use Rattle.spans.specs.Maps.{before, after};
+ghost use Rattle.byte_slots.specs.Kinds.{maps, insertOf};
+ghost use Rattle.byte_slots.specs.Maps.{before, after};
 ghost use Rattle.byte_map.specs.Planning.{placingMap, locatingMap};
 use answers::Outcome;
 use answers::Refusal;
 use answers::Removed;
 use answers::Stored;
-use arena::fill;
-use arena::free;
-use arena::wipe;
+use byte_arena::fill;
+use byte_arena::free;
+use byte_arena::wipe;
 use arrays::clear_words;
-use byte_reads::map_fits;
-use spans::Located;
-use spans::Placed;
+use byte_map_reads::map_fits;
+use byte_slots::Located;
+use byte_slots::Placed;
 
 // The plan of insert in a map: refusal 1, then what the plan answers.
 pub fn place(
@@ -30,7 +30,7 @@ pub fn place(
     ensures { λ r. ⌜ r ≡ placingMap (before marks offsets lengths values arena) (now (key .entry)) ⌝ }
 {
     if marks.len() == values.len() {
-        return spans::place(marks, offsets, lengths, arena, key);
+        return byte_slots::place(marks, offsets, lengths, arena, key);
     }
     Placed::Refused(Refusal::Sizes)
 }
@@ -47,7 +47,7 @@ pub fn locate(
     ensures { λ r. ⌜ r ≡ locatingMap (before marks offsets lengths values arena) (now (key .entry)) ⌝ }
 {
     if marks.len() == values.len() {
-        return spans::locate(marks, offsets, lengths, arena, key);
+        return byte_slots::locate(marks, offsets, lengths, arena, key);
     }
     Located::Refused(Refusal::Sizes)
 }

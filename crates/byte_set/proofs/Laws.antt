@@ -13,16 +13,16 @@ use Rattle.answers.specs.Said.{doneSaid, joinedSaid, droppedSaid}
 use Rattle.kinds.specs.Calls.{makeOf, droppedOf}
 use Rattle.kinds.specs.Columns.{nothing}
 use Rattle.kinds.specs.Told.{told}
-use Rattle.spans.specs.declared.Placed.{Placed}
-use Rattle.spans.specs.declared.Placed.the-variants as placed
-use Rattle.spans.specs.declared.Located.{Located}
-use Rattle.spans.specs.declared.Located.the-variants as located
-use Rattle.spans.specs.Memory.{Spans, usedOf, fitting, filled, emptied, wiped}
-use Rattle.spans.specs.Kinds.{sets, joinOf}
-use Rattle.spans.specs.Planning.{placing, locating}
-use Rattle.spans.proofs.Bridge.{spotOf, lostOf, remove-locating, entry-placing}
-use Rattle.spans.proofs.Sets.{setOf, fit, unfit}
-use Rattle.arena.proofs.Plans.{place-fillable}
+use Rattle.byte_slots.specs.declared.Placed.{Placed}
+use Rattle.byte_slots.specs.declared.Placed.the-variants as placed
+use Rattle.byte_slots.specs.declared.Located.{Located}
+use Rattle.byte_slots.specs.declared.Located.the-variants as located
+use Rattle.byte_slots.specs.Memory.{Spans, usedOf, fitting, filled, emptied, wiped}
+use Rattle.byte_slots.specs.Kinds.{sets, joinOf}
+use Rattle.byte_slots.specs.Planning.{placing, locating}
+use Rattle.byte_slots.proofs.Bridge.{spotOf, lostOf, remove-locating, entry-placing}
+use Rattle.byte_slots.proofs.Sets.{setOf, fit, unfit}
+use Rattle.byte_arena.proofs.Plans.{place-fillable}
 
 module _ (s : Spans) where
   -- by the test of the sizes

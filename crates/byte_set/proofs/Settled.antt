@@ -7,8 +7,8 @@ use Rattle.kinds.specs.Calls.{makeOf, droppedOf}
 use Rattle.kinds.specs.Columns.{nothing}
 use Rattle.kinds.specs.Told.{SettledWith}
 use Rattle.kinds.proofs.Settled.{settled-with}
-use Rattle.spans.specs.Memory.{Strings}
-use Rattle.spans.specs.Kinds.{sets, joinOf}
+use Rattle.byte_slots.specs.Memory.{Strings}
+use Rattle.byte_slots.specs.Kinds.{sets, joinOf}
 
 module _ (m : Strings nothing) where
   -- `make`.

@@ -3,21 +3,21 @@ ghost use mathlib.Core.Path.{_≡_};
 ghost use Rattle.answers.specs.Numbers.{outcomeNumbers, joinedNumbers, droppedNumbers};
 ghost use Rattle.kinds.specs.Calls.{makeOf, droppedOf};
 ghost use Rattle.kinds.specs.Told.{told};
-ghost use Rattle.spans.specs.Kinds.{sets, joinOf};
-ghost use Rattle.spans.specs.Sets.{before, after};
+ghost use Rattle.byte_slots.specs.Kinds.{sets, joinOf};
+ghost use Rattle.byte_slots.specs.Sets.{before, after};
 use answers::Dropped;
 use answers::Joined;
 use answers::Outcome;
 use answers::Refusal;
-use spans::Located;
-use spans::Placed;
+use byte_slots::Located;
+use byte_slots::Placed;
 
 // Makes an empty set of the lent arrays.
 pub fn make(marks: &mut [u8], offsets: &mut [u16], lengths: &mut [u8], arena: &mut [u8]) -> Outcome
     ensures { λ r. ⌜ told (outcomeNumbers r) (after marks offsets lengths arena) ≡ makeOf sets (before marks offsets lengths arena) ⌝ }
 {
-    if spans::fits(marks, offsets, lengths, arena) {
-        arena::wipe(marks, offsets, lengths, arena);
+    if byte_slots::fits(marks, offsets, lengths, arena) {
+        byte_arena::wipe(marks, offsets, lengths, arena);
         Outcome::Done
     } else {
         Outcome::Refused(Refusal::Sizes)
@@ -41,11 +41,11 @@ pub fn insert(
 ) -> Joined
     ensures { λ r. ⌜ told (joinedNumbers r) (after marks offsets lengths arena) ≡ joinOf (before marks offsets lengths arena) (now (key .entry)) ⌝ }
 {
-    let plan = spans::place(marks, offsets, lengths, arena, key);
+    let plan = byte_slots::place(marks, offsets, lengths, arena, key);
     match plan {
         Placed::Hit(slot, examined) => Joined::Already(slot, examined),
         Placed::Free(slot, examined, used) => {
-            arena::fill(marks, offsets, lengths, arena, slot, used, key);
+            byte_arena::fill(marks, offsets, lengths, arena, slot, used, key);
             Joined::Fresh(slot, used, examined)
         }
         Placed::Refused(r) => Joined::Refused(r),
@@ -62,10 +62,10 @@ pub fn remove(
 ) -> Dropped
     ensures { λ r. ⌜ told (droppedNumbers r) (after marks offsets lengths arena) ≡ droppedOf sets (before marks offsets lengths arena) (now (key .entry)) ⌝ }
 {
-    let plan = spans::locate(marks, offsets, lengths, arena, key);
+    let plan = byte_slots::locate(marks, offsets, lengths, arena, key);
     match plan {
         Located::Hit(slot, examined, used) => {
-            arena::free(marks, offsets, lengths, arena, slot, used);
+            byte_arena::free(marks, offsets, lengths, arena, slot, used);
             Dropped::Removed(slot, examined)
         }
         Located::Absent(examined) => Dropped::Absent(examined),

@@ -14,10 +14,10 @@ use Rattle.arrays.specs.Whole.{copied}
 use Rattle.arrays.proofs.Below.{copied-whole}
 use Rattle.kinds.specs.Calls.{copyOf}
 use Rattle.kinds.specs.Told.{told}
-use Rattle.spans.specs.Memory.{Spans, spansOf, fitting}
-use Rattle.spans.specs.Kinds.{sets}
-use Rattle.spans.proofs.Sets.{setOf, fit, unfit}
-use Rattle.spans.proofs.Sizes.{fitting-says}
+use Rattle.byte_slots.specs.Memory.{Spans, spansOf, fitting}
+use Rattle.byte_slots.specs.Kinds.{sets}
+use Rattle.byte_slots.proofs.Sets.{setOf, fit, unfit}
+use Rattle.byte_slots.proofs.Sizes.{fitting-says}
 
 -- copy onto the first table from the other
 module _ (s t : Spans) {b : Bool} (p : b ≡ fitting s) where

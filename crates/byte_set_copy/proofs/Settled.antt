@@ -5,8 +5,8 @@ use Rattle.kinds.specs.Columns.{nothing}
 use Rattle.kinds.specs.Told.{SettledWith}
 use Rattle.kinds.specs.Calls.{copyOf}
 use Rattle.kinds.proofs.Settled.{settled-with}
-use Rattle.spans.specs.Memory.{Strings}
-use Rattle.spans.specs.Kinds.{sets}
+use Rattle.byte_slots.specs.Memory.{Strings}
+use Rattle.byte_slots.specs.Kinds.{sets}
 
 -- `copy`.
 pub copy-settled : (to from : Strings nothing) → SettledWith outcomeNumbers (copyOf sets to from)

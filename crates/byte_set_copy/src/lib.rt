@@ -3,13 +3,13 @@ ghost use mathlib.Core.Path.{_≡_};
 ghost use Rattle.answers.specs.Numbers.{outcomeNumbers};
 ghost use Rattle.kinds.specs.Told.{told};
 ghost use Rattle.kinds.specs.Calls.{copyOf};
-ghost use Rattle.spans.specs.Kinds.{sets};
-ghost use Rattle.spans.specs.Sets.{before, after};
+ghost use Rattle.byte_slots.specs.Kinds.{sets};
+ghost use Rattle.byte_slots.specs.Sets.{before, after};
 use answers::Outcome;
 use answers::Refusal;
 use arrays::copy_bytes;
 use arrays::copy_shorts;
-use spans::fits;
+use byte_slots::fits;
 
 // Makes a set equal to another of equal sizes, in every slot and byte.
 pub fn copy(

@@ -19,12 +19,12 @@ use Rattle.kinds.specs.declared.Scanned.the-variants as scanned
 use Rattle.kinds.specs.Calls.{capacityOf, lenOf, containsOf}
 use Rattle.kinds.specs.Columns.{nothing}
 use Rattle.kinds.proofs.Bridge.{seenOf}
-use Rattle.spans.specs.Memory.{Spans, fitting, offsetAt, lengthAt}
-use Rattle.spans.specs.Kinds.{sets, spanOf}
-use Rattle.spans.specs.Probing.{probing}
-use Rattle.spans.specs.Scanning.{scanning}
-use Rattle.spans.proofs.Bridge.{probing-inside, get-probing, scan-live, scan-bad}
-use Rattle.spans.proofs.Sets.{setOf, fit, unfit}
+use Rattle.byte_slots.specs.Memory.{Spans, fitting, offsetAt, lengthAt}
+use Rattle.byte_slots.specs.Kinds.{sets, spanOf}
+use Rattle.byte_slots.specs.Probing.{probing}
+use Rattle.byte_slots.specs.Scanning.{scanning}
+use Rattle.byte_slots.proofs.Bridge.{probing-inside, get-probing, scan-live, scan-bad}
+use Rattle.byte_slots.proofs.Sets.{setOf, fit, unfit}
 
 module _ (s : Spans) where
   -- by the test of the sizes

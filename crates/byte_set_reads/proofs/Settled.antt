@@ -7,8 +7,8 @@ use Rattle.kinds.specs.Calls.{capacityOf, lenOf, isEmptyOf, reserveOf, contains
 use Rattle.kinds.specs.Columns.{nothing}
 use Rattle.kinds.specs.Told.{Settled}
 use Rattle.kinds.proofs.Settled.{settled}
-use Rattle.spans.specs.Memory.{Strings}
-use Rattle.spans.specs.Kinds.{sets, spanOf}
+use Rattle.byte_slots.specs.Memory.{Strings}
+use Rattle.byte_slots.specs.Kinds.{sets, spanOf}
 
 module _ (m : Strings nothing) where
   -- `capacity`.

@@ -2,8 +2,8 @@
 ghost use mathlib.Core.Path.{_≡_};
 ghost use Rattle.answers.specs.Numbers.{countedNumbers, emptinessNumbers, reservedNumbers, spannedNumbers, containedNumbers};
 ghost use Rattle.kinds.specs.Calls.{capacityOf, lenOf, isEmptyOf, reserveOf, containsOf};
-ghost use Rattle.spans.specs.Kinds.{sets, spanOf};
-ghost use Rattle.spans.specs.Sets.{before};
+ghost use Rattle.byte_slots.specs.Kinds.{sets, spanOf};
+ghost use Rattle.byte_slots.specs.Sets.{before};
 use answers::Contained;
 use answers::Counted;
 use answers::Emptiness;
@@ -12,14 +12,14 @@ use answers::Reserved;
 use answers::Spanned;
 use kinds::Probed;
 use kinds::Scanned;
-use spans::len_at;
-use spans::offset_at;
+use byte_slots::len_at;
+use byte_slots::offset_at;
 
 // The number of slots.
 pub fn capacity(marks: &[u8], offsets: &[u16], lengths: &[u8], arena: &[u8]) -> Counted
     ensures { λ r. ⌜ countedNumbers r ≡ capacityOf sets (before marks offsets lengths arena) ⌝ }
 {
-    if spans::fits(marks, offsets, lengths, arena) {
+    if byte_slots::fits(marks, offsets, lengths, arena) {
         return Counted::Count(marks.len());
     }
     Counted::Refused(Refusal::Sizes)
@@ -29,8 +29,8 @@ pub fn capacity(marks: &[u8], offsets: &[u16], lengths: &[u8], arena: &[u8]) -> 
 pub fn len(marks: &[u8], offsets: &[u16], lengths: &[u8], arena: &[u8]) -> Counted
     ensures { λ r. ⌜ countedNumbers r ≡ lenOf sets (before marks offsets lengths arena) ⌝ }
 {
-    if spans::fits(marks, offsets, lengths, arena) {
-        let seen = spans::scan(marks, offsets, lengths, arena);
+    if byte_slots::fits(marks, offsets, lengths, arena) {
+        let seen = byte_slots::scan(marks, offsets, lengths, arena);
         match seen {
             Scanned::Live(n) => return Counted::Count(n),
             Scanned::Bad => return Counted::Refused(Refusal::Damaged),
@@ -75,7 +75,7 @@ pub fn reserve(marks: &[u8], offsets: &[u16], lengths: &[u8], arena: &[u8], aske
 pub fn get(marks: &[u8], offsets: &[u16], lengths: &[u8], arena: &[u8], key: &[u8]) -> Spanned
     ensures { λ r. ⌜ spannedNumbers r ≡ spanOf (before marks offsets lengths arena) (now (key .entry)) ⌝ }
 {
-    let seen = spans::probe(marks, offsets, lengths, arena, key);
+    let seen = byte_slots::probe(marks, offsets, lengths, arena, key);
     match seen {
         Probed::Hit(slot, examined) => {
             let offset = offset_at(offsets, slot) as usize;
@@ -98,7 +98,7 @@ pub fn contains(
 ) -> Contained
     ensures { λ r. ⌜ containedNumbers r ≡ containsOf sets (before marks offsets lengths arena) (now (key .entry)) ⌝ }
 {
-    let seen = spans::probe(marks, offsets, lengths, arena, key);
+    let seen = byte_slots::probe(marks, offsets, lengths, arena, key);
     match seen {
         Probed::Hit(_, examined) => Contained::Present(examined),
         Probed::Free(_, examined) => Contained::Absent(examined),

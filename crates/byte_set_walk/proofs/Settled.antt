@@ -4,9 +4,9 @@ use mathlib.Core.Path.{_≡_, sym, _∙_}
 use Rattle.kinds.specs.Columns.{nothing}
 use Rattle.kinds.specs.Told.{Settled, SettledWith}
 use Rattle.kinds.proofs.Settled.{settled, settled-with}
-use Rattle.lent.specs.Moved.{movedOn}
-use Rattle.spans.specs.Memory.{Strings}
-use Rattle.spans.specs.Kinds.{setStepOf}
+use Rattle.kinds.specs.Moved.{movedOn}
+use Rattle.byte_slots.specs.Memory.{Strings}
+use Rattle.byte_slots.specs.Kinds.{setStepOf}
 use Rattle.byte_set_walk.specs.declared.Walk.{Walk}
 use Rattle.byte_set_walk.specs.Numbers.{stepNumbers}
 use Rattle.byte_set_walk.proofs.Equal.{stepNumbers-injective}

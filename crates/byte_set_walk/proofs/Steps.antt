@@ -15,11 +15,11 @@ use Rattle.answers.specs.Said.{stepSaid}
 use Rattle.kinds.specs.declared.Next.{Next}
 use Rattle.kinds.specs.declared.Next.the-variants as next
 use Rattle.kinds.specs.Columns.{nothing}
-use Rattle.spans.specs.Memory.{Spans, fitting}
-use Rattle.spans.specs.Kinds.{setPaceOf, setStepOf}
-use Rattle.spans.specs.Scanning.{nexting}
-use Rattle.spans.proofs.Bridge.{paced-by}
-use Rattle.spans.proofs.Sets.{setOf, fit, unfit}
+use Rattle.byte_slots.specs.Memory.{Spans, fitting}
+use Rattle.byte_slots.specs.Kinds.{setPaceOf, setStepOf}
+use Rattle.byte_slots.specs.Scanning.{nexting}
+use Rattle.byte_slots.proofs.Bridge.{paced-by}
+use Rattle.byte_slots.proofs.Sets.{setOf, fit, unfit}
 use Rattle.byte_set_walk.specs.declared.Paced.the-variants.{Member, Nothing, Done}
 use Rattle.byte_set_walk.specs.declared.Stride.{Stride}
 use Rattle.byte_set_walk.specs.Numbers.{pacedNumbers, stepNumbers, refusedNumbers}

@@ -3,17 +3,17 @@ ghost use mathlib.Core.Path.{_≡_};
 ghost use Prim.Native.Nat.{_+_, _≤_};
 ghost use lib.ListN.{length};
 ghost use Rattle.kinds.specs.Told.{told};
-ghost use Rattle.lent.specs.Moved.{movedOn};
-ghost use Rattle.spans.specs.Kinds.{setPaceOf, setStepOf};
-ghost use Rattle.spans.specs.Sets.{before};
+ghost use Rattle.kinds.specs.Moved.{movedOn};
+ghost use Rattle.byte_slots.specs.Kinds.{setPaceOf, setStepOf};
+ghost use Rattle.byte_slots.specs.Sets.{before};
 ghost use Rattle.byte_set_walk.specs.Numbers.{refusedNumbers, stepNumbers};
 use answers::Refusal;
 use kinds::Next;
 use kinds::reach;
-use spans::fits;
-use spans::len_at;
-use spans::next_live;
-use spans::offset_at;
+use byte_slots::fits;
+use byte_slots::len_at;
+use byte_slots::next_live;
+use byte_slots::offset_at;
 
 // A walk of a set is the slot where it stands.
 pub struct Walk {

@@ -15,12 +15,12 @@ use Rattle.answers.specs.Said.{doneSaid, insertedSaid, removedSaid}
 use Rattle.kinds.specs.declared.Probed.{Probed}
 use Rattle.kinds.specs.declared.Probed.the-variants.{Hit, Free, Full, Refused}
 use Rattle.kinds.specs.Columns.{values}
-use Rattle.ints.specs.Memory.{memory}
-use Rattle.ints.specs.Seeking.{fittingMap, seekingMap}
+use Rattle.int_slots.specs.Memory.{memory}
+use Rattle.int_slots.specs.Seeking.{fittingMap, seekingMap}
 use Rattle.kinds.proofs.Bridge.{seenOf, spotOf}
-use Rattle.ints.proofs.Seeking.{remove-seeking, entry-seeking}
-use Rattle.ints.specs.Maps.{maps}
-use Rattle.ints.proofs.MapSizes.{fit, unfit}
+use Rattle.int_slots.proofs.Seeking.{remove-seeking, entry-seeking}
+use Rattle.int_slots.specs.Maps.{maps}
+use Rattle.int_slots.proofs.MapSizes.{fit, unfit}
 use Rattle.kinds.specs.Told.{told}
 use Rattle.int_map.specs.Calls.{insertOf}
 use Rattle.kinds.specs.Calls.{makeOf, removeOf}

@@ -5,10 +5,10 @@ use Rattle.answers.proofs.Equal.{outcomeNumbers-injective, insertedNumbers-inje
 use Rattle.kinds.specs.Columns.{values}
 use Rattle.kinds.specs.Told.{SettledWith}
 use Rattle.kinds.proofs.Settled.{settled-with}
-use Rattle.ints.specs.Memory.{Cells}
+use Rattle.int_slots.specs.Memory.{Cells}
 use Rattle.int_map.specs.Calls.{insertOf}
 use Rattle.kinds.specs.Calls.{makeOf, removeOf}
-use Rattle.ints.specs.Maps.{maps}
+use Rattle.int_slots.specs.Maps.{maps}
 
 module _ (m : Cells values) where
   -- `make`.

@@ -3,8 +3,8 @@ use Prim.Native.Nat.{ℕ}
 use Rattle.model.specs.Calls.{entry, after-insert}
 use Rattle.answers.specs.Said.{insertedSaid}
 use Rattle.kinds.specs.Columns.{values}
-use Rattle.ints.specs.Memory.{Cells}
-use Rattle.ints.specs.Maps.{maps}
+use Rattle.int_slots.specs.Memory.{Cells}
+use Rattle.int_slots.specs.Maps.{maps}
 use Rattle.kinds.specs.Told.{Told, told}
 
 -- insert: the key's value changes in its slot, or the first free slot of its path takes the key.

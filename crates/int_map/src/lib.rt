@@ -4,7 +4,7 @@ ghost use Rattle.answers.specs.Numbers.{outcomeNumbers, insertedNumbers, remove
 ghost use Rattle.kinds.specs.Told.{told};
 ghost use Rattle.int_map.specs.Calls.{insertOf};
 ghost use Rattle.kinds.specs.Calls.{makeOf, removeOf};
-ghost use Rattle.ints.specs.Maps.{maps, before, after};
+ghost use Rattle.int_slots.specs.Maps.{maps, before, after};
 use answers::Inserted;
 use answers::Outcome;
 use answers::Refusal;
@@ -17,7 +17,7 @@ use kinds::Probed;
 pub fn make(marks: &mut [u8], keys: &mut [u64], values: &mut [u64]) -> Outcome
     ensures { λ r. ⌜ told (outcomeNumbers r) (after marks keys values) ≡ makeOf maps (before marks keys values) ⌝ }
 {
-    if ints::map_fits(marks, keys, values) {
+    if int_slots::map_fits(marks, keys, values) {
         clear_bytes(marks);
         clear_words(keys);
         clear_words(values);
@@ -43,7 +43,7 @@ pub fn insert(
 ) -> Inserted
     ensures { λ r. ⌜ told (insertedNumbers r) (after marks keys values) ≡ insertOf (before marks keys values) key value ⌝ }
 {
-    let seen = ints::seek(marks, keys, values, key);
+    let seen = int_slots::seek(marks, keys, values, key);
     match seen {
         Probed::Hit(slot, examined) => {
             let old = values[slot];
@@ -65,7 +65,7 @@ pub fn insert(
 pub fn remove(marks: &mut [u8], keys: &mut [u64], values: &mut [u64], key: u64) -> Removed
     ensures { λ r. ⌜ told (removedNumbers r) (after marks keys values) ≡ removeOf maps (before marks keys values) key ⌝ }
 {
-    let seen = ints::seek(marks, keys, values, key);
+    let seen = int_slots::seek(marks, keys, values, key);
     match seen {
         Probed::Hit(slot, examined) => {
             let old = values[slot];

@@ -13,12 +13,12 @@ use Rattle.answers.specs.Said.{doneSaid, addedSaid, droppedSaid}
 use Rattle.kinds.specs.declared.Probed.{Probed}
 use Rattle.kinds.specs.declared.Probed.the-variants.{Hit, Free}
 use Rattle.kinds.specs.Columns.{nothing}
-use Rattle.ints.specs.Memory.{fitting}
-use Rattle.ints.specs.Probing.{probing}
+use Rattle.int_slots.specs.Memory.{fitting}
+use Rattle.int_slots.specs.Probing.{probing}
 use Rattle.kinds.proofs.Bridge.{seenOf, spotOf}
-use Rattle.ints.proofs.Bridge.{remove-probing, entry-probing, hit-slot, free-slot}
-use Rattle.ints.specs.Sets.{sets, memory}
-use Rattle.ints.proofs.SetSizes.{fit, unfit}
+use Rattle.int_slots.proofs.Bridge.{remove-probing, entry-probing, hit-slot, free-slot}
+use Rattle.int_slots.specs.Sets.{sets, memory}
+use Rattle.int_slots.proofs.SetSizes.{fit, unfit}
 use Rattle.kinds.specs.Told.{told}
 use Rattle.int_set.specs.Calls.{insertOf}
 use Rattle.kinds.specs.Calls.{makeOf, droppedOf}

@@ -5,10 +5,10 @@ use Rattle.answers.proofs.Equal.{outcomeNumbers-injective, addedNumbers-injecti
 use Rattle.kinds.specs.Columns.{nothing}
 use Rattle.kinds.specs.Told.{SettledWith}
 use Rattle.kinds.proofs.Settled.{settled-with}
-use Rattle.ints.specs.Memory.{Cells}
+use Rattle.int_slots.specs.Memory.{Cells}
 use Rattle.int_set.specs.Calls.{insertOf}
 use Rattle.kinds.specs.Calls.{makeOf, droppedOf}
-use Rattle.ints.specs.Sets.{sets}
+use Rattle.int_slots.specs.Sets.{sets}
 
 module _ (m : Cells nothing) where
   -- `make`.

@@ -3,8 +3,8 @@ use Prim.Native.Nat.{ℕ}
 use Rattle.model.specs.Calls.{entry, after-insert}
 use Rattle.answers.specs.Said.{addedSaid}
 use Rattle.kinds.specs.Columns.{nothing}
-use Rattle.ints.specs.Memory.{Cells}
-use Rattle.ints.specs.Sets.{sets}
+use Rattle.int_slots.specs.Memory.{Cells}
+use Rattle.int_slots.specs.Sets.{sets}
 use Rattle.kinds.specs.Told.{Told, told}
 
 -- insert: the first free slot of the key's path takes it; a key that is there stores nothing.

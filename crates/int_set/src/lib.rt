@@ -1,7 +1,7 @@
 // The integer set: u64 keys in lent slot arrays, and the calls that store. Each contract is one equation with a definition of the theory at this store.
 ghost use mathlib.Core.Path.{_≡_};
 ghost use Rattle.answers.specs.Numbers.{outcomeNumbers, addedNumbers, droppedNumbers};
-ghost use Rattle.ints.specs.Sets.{sets, before, after};
+ghost use Rattle.int_slots.specs.Sets.{sets, before, after};
 ghost use Rattle.kinds.specs.Told.{told};
 ghost use Rattle.int_set.specs.Calls.{insertOf};
 ghost use Rattle.kinds.specs.Calls.{makeOf, droppedOf};
@@ -17,7 +17,7 @@ use kinds::Probed;
 pub fn make(marks: &mut [u8], keys: &mut [u64]) -> Outcome
     ensures { λ r. ⌜ told (outcomeNumbers r) (after marks keys) ≡ makeOf sets (before marks keys) ⌝ }
 {
-    if ints::fits(marks, keys) {
+    if int_slots::fits(marks, keys) {
         clear_bytes(marks);
         clear_words(keys);
         return Outcome::Done;
@@ -36,7 +36,7 @@ pub fn clear(marks: &mut [u8], keys: &mut [u64]) -> Outcome
 pub fn insert(marks: &mut [u8], keys: &mut [u64], key: u64) -> Added
     ensures { λ r. ⌜ told (addedNumbers r) (after marks keys) ≡ insertOf (before marks keys) key ⌝ }
 {
-    let seen = ints::probe(marks, keys, key);
+    let seen = int_slots::probe(marks, keys, key);
     match seen {
         Probed::Hit(slot, examined) => Added::Already(slot, examined),
         Probed::Free(slot, examined) => {
@@ -53,7 +53,7 @@ pub fn insert(marks: &mut [u8], keys: &mut [u64], key: u64) -> Added
 pub fn remove(marks: &mut [u8], keys: &mut [u64], key: u64) -> Dropped
     ensures { λ r. ⌜ told (droppedNumbers r) (after marks keys) ≡ droppedOf sets (before marks keys) key ⌝ }
 {
-    let seen = ints::probe(marks, keys, key);
+    let seen = int_slots::probe(marks, keys, key);
     match seen {
         Probed::Hit(slot, examined) => {
             marks[slot] = 2;

@@ -14,9 +14,9 @@ use Rattle.answers.specs.Said.{doneSaid}
 use Rattle.arrays.specs.Whole.{copied}
 use Rattle.arrays.proofs.Below.{copied-whole}
 use Rattle.kinds.specs.Told.{told}
-use Rattle.ints.specs.Memory.{fitting}
-use Rattle.ints.specs.Sets.{sets, memory}
-use Rattle.ints.proofs.SetSizes.{fit, unfit, same-long}
+use Rattle.int_slots.specs.Memory.{fitting}
+use Rattle.int_slots.specs.Sets.{sets, memory}
+use Rattle.int_slots.proofs.SetSizes.{fit, unfit, same-long}
 use Rattle.kinds.specs.Calls.{copyOf}
 
 -- copy onto the first two arrays from the others

@@ -4,9 +4,9 @@ use Rattle.answers.proofs.Equal.{outcomeNumbers-injective}
 use Rattle.kinds.specs.Columns.{nothing}
 use Rattle.kinds.specs.Told.{SettledWith}
 use Rattle.kinds.proofs.Settled.{settled-with}
-use Rattle.ints.specs.Memory.{Cells}
+use Rattle.int_slots.specs.Memory.{Cells}
 use Rattle.kinds.specs.Calls.{copyOf}
-use Rattle.ints.specs.Sets.{sets}
+use Rattle.int_slots.specs.Sets.{sets}
 
 module _ (m : Cells nothing) where
   -- `copy`.

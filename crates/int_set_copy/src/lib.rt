@@ -2,7 +2,7 @@
 ghost use mathlib.Core.Path.{_≡_};
 ghost use Rattle.answers.specs.Numbers.{outcomeNumbers};
 ghost use Rattle.kinds.specs.Told.{told};
-ghost use Rattle.ints.specs.Sets.{sets, before, after};
+ghost use Rattle.int_slots.specs.Sets.{sets, before, after};
 ghost use Rattle.kinds.specs.Calls.{copyOf};
 use answers::Outcome;
 use answers::Refusal;
@@ -13,8 +13,8 @@ use arrays::copy_words;
 pub fn copy(to_marks: &mut [u8], to_keys: &mut [u64], marks: &[u8], keys: &[u64]) -> Outcome
     ensures { λ r. ⌜ told (outcomeNumbers r) (after «to_marks» «to_keys») ≡ copyOf sets (before «to_marks» «to_keys») (before marks keys) ⌝ }
 {
-    if ints::fits(to_marks, to_keys) {
-        if ints::fits(marks, keys) {
+    if int_slots::fits(to_marks, to_keys) {
+        if int_slots::fits(marks, keys) {
             if to_marks.len() == marks.len() {
                 copy_bytes(to_marks, marks);
                 copy_words(to_keys, keys);

@@ -15,12 +15,12 @@ use Rattle.kinds.specs.declared.Scanned.{Scanned}
 use Rattle.kinds.specs.declared.Scanned.the-variants as scanned
 use Rattle.kinds.specs.Columns.{nothing}
 use Rattle.kinds.proofs.Bridge.{seenOf}
-use Rattle.ints.specs.Memory.{fitting}
-use Rattle.ints.specs.Probing.{probing}
-use Rattle.ints.specs.Scanning.{scanning}
-use Rattle.ints.proofs.Bridge.{get-probing, scan-live, scan-bad}
-use Rattle.ints.specs.Sets.{sets, memory}
-use Rattle.ints.proofs.SetSizes.{fit, unfit}
+use Rattle.int_slots.specs.Memory.{fitting}
+use Rattle.int_slots.specs.Probing.{probing}
+use Rattle.int_slots.specs.Scanning.{scanning}
+use Rattle.int_slots.proofs.Bridge.{get-probing, scan-live, scan-bad}
+use Rattle.int_slots.specs.Sets.{sets, memory}
+use Rattle.int_slots.proofs.SetSizes.{fit, unfit}
 use Rattle.int_set_reads.specs.Calls.{getOf}
 use Rattle.kinds.specs.Calls.{capacityOf, lenOf, containsOf}
 

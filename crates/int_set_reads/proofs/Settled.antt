@@ -5,10 +5,10 @@ use Rattle.answers.proofs.Equal.{countedNumbers-injective, emptinessNumbers-inj
 use Rattle.kinds.specs.Columns.{nothing}
 use Rattle.kinds.specs.Told.{Settled}
 use Rattle.kinds.proofs.Settled.{settled}
-use Rattle.ints.specs.Memory.{Cells}
+use Rattle.int_slots.specs.Memory.{Cells}
 use Rattle.int_set_reads.specs.Calls.{getOf}
 use Rattle.kinds.specs.Calls.{capacityOf, lenOf, isEmptyOf, reserveOf, containsOf}
-use Rattle.ints.specs.Sets.{sets}
+use Rattle.int_slots.specs.Sets.{sets}
 
 module _ (m : Cells nothing) where
   -- `capacity`.

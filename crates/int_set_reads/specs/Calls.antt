@@ -4,8 +4,8 @@ use Rattle.model.specs.Calls.{get}
 use Rattle.answers.specs.declared.Numbers.{Numbers}
 use Rattle.answers.specs.Said.{memberSaid}
 use Rattle.kinds.specs.Columns.{nothing}
-use Rattle.ints.specs.Memory.{Cells}
-use Rattle.ints.specs.Sets.{sets}
+use Rattle.int_slots.specs.Memory.{Cells}
+use Rattle.int_slots.specs.Sets.{sets}
 
 -- get: the key itself, where it is there.
 unfoldable pub getOf : Cells nothing → ℕ → Numbers

@@ -1,7 +1,7 @@
 // The calls of an integer set that only read. Each contract is one equation with a definition of the theory at this store.
 ghost use mathlib.Core.Path.{_≡_};
 ghost use Rattle.answers.specs.Numbers.{countedNumbers, emptinessNumbers, reservedNumbers, memberNumbers, containedNumbers};
-ghost use Rattle.ints.specs.Sets.{sets, before};
+ghost use Rattle.int_slots.specs.Sets.{sets, before};
 ghost use Rattle.int_set_reads.specs.Calls.{getOf};
 ghost use Rattle.kinds.specs.Calls.{capacityOf, lenOf, isEmptyOf, reserveOf, containsOf};
 use answers::Contained;
@@ -17,7 +17,7 @@ use kinds::Scanned;
 pub fn capacity(marks: &[u8], keys: &[u64]) -> Counted
     ensures { λ r. ⌜ countedNumbers r ≡ capacityOf sets (before marks keys) ⌝ }
 {
-    if ints::fits(marks, keys) {
+    if int_slots::fits(marks, keys) {
         return Counted::Count(marks.len());
     }
     Counted::Refused(Refusal::Sizes)
@@ -27,8 +27,8 @@ pub fn capacity(marks: &[u8], keys: &[u64]) -> Counted
 pub fn len(marks: &[u8], keys: &[u64]) -> Counted
     ensures { λ r. ⌜ countedNumbers r ≡ lenOf sets (before marks keys) ⌝ }
 {
-    if ints::fits(marks, keys) {
-        let seen = ints::scan(marks);
+    if int_slots::fits(marks, keys) {
+        let seen = int_slots::scan(marks);
         match seen {
             Scanned::Live(n) => return Counted::Count(n),
             Scanned::Bad => return Counted::Refused(Refusal::Damaged),
@@ -73,7 +73,7 @@ pub fn reserve(marks: &[u8], keys: &[u64], asked: u64) -> Reserved
 pub fn get(marks: &[u8], keys: &[u64], key: u64) -> Member
     ensures { λ r. ⌜ memberNumbers r ≡ getOf (before marks keys) key ⌝ }
 {
-    let seen = ints::probe(marks, keys, key);
+    let seen = int_slots::probe(marks, keys, key);
     match seen {
         Probed::Hit(slot, examined) => Member::Found(key, slot, examined),
         Probed::Free(_, examined) => Member::Absent(examined),
@@ -86,7 +86,7 @@ pub fn get(marks: &[u8], keys: &[u64], key: u64) -> Member
 pub fn contains(marks: &[u8], keys: &[u64], key: u64) -> Contained
     ensures { λ r. ⌜ containedNumbers r ≡ containsOf sets (before marks keys) key ⌝ }
 {
-    let seen = ints::probe(marks, keys, key);
+    let seen = int_slots::probe(marks, keys, key);
     match seen {
         Probed::Hit(_, examined) => Contained::Present(examined),
         Probed::Free(_, examined) => Contained::Absent(examined),

@@ -4,8 +4,8 @@ use mathlib.Core.Path.{_≡_, sym, _∙_}
 use Rattle.kinds.specs.Columns.{nothing}
 use Rattle.kinds.specs.Told.{Settled, SettledWith}
 use Rattle.kinds.proofs.Settled.{settled, settled-with}
-use Rattle.lent.specs.Moved.{movedOn}
-use Rattle.ints.specs.Memory.{Cells}
+use Rattle.kinds.specs.Moved.{movedOn}
+use Rattle.int_slots.specs.Memory.{Cells}
 use Rattle.int_set_walk.specs.declared.Walk.{Walk}
 use Rattle.int_set_walk.specs.Numbers.{stepNumbers}
 use Rattle.int_set_walk.specs.Calls.{stepOf}

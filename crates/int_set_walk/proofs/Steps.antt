@@ -14,16 +14,16 @@ use Rattle.model.proofs.Walk.{reach-high}
 use Rattle.kinds.specs.declared.Next.{Next}
 use Rattle.kinds.specs.declared.Next.the-variants as next
 use Rattle.kinds.specs.Columns.{nothing}
-use Rattle.ints.specs.Memory.{fitting}
-use Rattle.ints.specs.Scanning.{nexting}
-use Rattle.ints.proofs.Bridge.{paced-by}
+use Rattle.int_slots.specs.Memory.{fitting}
+use Rattle.int_slots.specs.Scanning.{nexting}
+use Rattle.int_slots.proofs.Bridge.{paced-by}
 use Rattle.int_set_walk.specs.declared.Paced.the-variants.{Member, Nothing, Done}
 use Rattle.int_set_walk.specs.declared.Stride.{Stride}
-use Rattle.ints.specs.Sets.{memory}
+use Rattle.int_slots.specs.Sets.{memory}
 use Rattle.answers.specs.Said.{keyHanded, stepSaid}
 use Rattle.int_set_walk.specs.Numbers.{pacedNumbers, stepNumbers}
 use Rattle.int_set_walk.specs.Calls.{paceOf, stepOf}
-use Rattle.ints.proofs.SetSizes.{fit, unfit, same-long}
+use Rattle.int_slots.proofs.SetSizes.{fit, unfit, same-long}
 
 module _ (marks keys : List ℕ) (at : ℕ) where
   -- the slots of a step

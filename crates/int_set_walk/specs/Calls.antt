@@ -5,8 +5,8 @@ use Rattle.model.specs.Walk.{paceTo}
 use Rattle.answers.specs.declared.Numbers.{Numbers}
 use Rattle.answers.specs.Said.{keyHanded, stepSaid}
 use Rattle.kinds.specs.Columns.{nothing}
-use Rattle.ints.specs.Memory.{Cells}
-use Rattle.ints.specs.Sets.{sets}
+use Rattle.int_slots.specs.Memory.{Cells}
+use Rattle.int_slots.specs.Sets.{sets}
 
 -- The slots of a step from `at`, so many.
 unfoldable pub paceOf : Cells nothing → ℕ → ℕ → Numbers

@@ -6,8 +6,8 @@ ghost use Rattle.model.specs.Calls.{no};
 ghost use Rattle.answers.specs.Refusals.{numberOf};
 ghost use Rattle.answers.specs.Said.{keyHanded, stepSaid};
 ghost use Rattle.kinds.specs.Told.{told};
-ghost use Rattle.lent.specs.Moved.{movedOn};
-ghost use Rattle.ints.specs.Sets.{before};
+ghost use Rattle.kinds.specs.Moved.{movedOn};
+ghost use Rattle.int_slots.specs.Sets.{before};
 ghost use Rattle.int_set_walk.specs.Calls.{paceOf, stepOf};
 ghost use Rattle.int_set_walk.specs.Numbers.{stepNumbers};
 use answers::Refusal;
@@ -50,7 +50,7 @@ fn pace(marks: &[u8], keys: &[u64], at: usize, slots: usize) -> Stride
     requires { ⌜ (at + slots ≤ length (now marks)) × (length (now keys) ≡ length (now marks)) ⌝ }
     ensures { λ r. ⌜ stepNumbers r ≡ paceOf (before marks keys) at slots ⌝ }
 {
-    let next = ints::next_live(marks, at, at + slots);
+    let next = int_slots::next_live(marks, at, at + slots);
     match next {
         Next::Live(slot) => Stride {
             walk: Walk { at: slot + 1 },
@@ -79,7 +79,7 @@ impl Walk {
         ensures { λ r. ⌜ stepNumbers r ≡ stepOf (before marks keys) (self .at) budget ⌝ }
     {
         let at = self.at;
-        if ints::fits(marks, keys) {
+        if int_slots::fits(marks, keys) {
             if budget == 0 {
                 return refused(at, Refusal::NoBudget);
             }

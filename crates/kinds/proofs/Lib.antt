@@ -1,9 +1,13 @@
 -- The laws that all kinds of tables share.
+pub mod Beside
 pub mod Bridge
 pub mod Columns
 pub mod Counts
+pub mod LentWalks
+pub mod Moved
 pub mod Scanning
 pub mod Settled
+pub mod Sizing
 pub mod Published
 pub mod Told
 pub mod Trail

@@ -3,6 +3,7 @@ pub mod Calls
 pub mod Columns
 pub mod Lent
 pub mod Marks
+pub mod Moved
 pub mod Probing
 pub mod Scanning
 pub mod Told

@@ -1,14 +1,14 @@
-// The byte map's entries for C: each call as byte_entry has it, its answer as numbers.
+// The byte map's entries for C: each call as byte_map_entry has it, its answer as numbers.
 ghost use mathlib.Core.Path.{_≡_};
 ghost use lib.ListN.{length};
 ghost use Rattle.kinds.specs.Told.{told};
 ghost use Rattle.kinds.specs.Calls.{entryOf, heldOf, setOf, takenOf, standingOf, orInsertOf, insertEntryOf};
-ghost use Rattle.spans.specs.Kinds.{maps};
-ghost use Rattle.spans.specs.Maps.{before, after};
+ghost use Rattle.byte_slots.specs.Kinds.{maps};
+ghost use Rattle.byte_slots.specs.Maps.{before, after};
 ghost use Rattle.numbers.specs.Handed.{handleAs};
 use answers::Numbers;
-use byte_handles::Occupied;
-use byte_vacant::Vacant;
+use byte_map_occupied::Occupied;
+use byte_map_vacant::Vacant;
 use numbers::byte_entries::entered;
 use numbers::byte_entries::entered_numbers;
 use numbers::byte_entries::held_numbers;
@@ -28,7 +28,7 @@ pub extern "C" fn moss_byte_map_entry(
 ) -> Numbers
     ensures { λ r. ⌜ r ≡ entryOf maps (before marks offsets lengths values arena) (now (key .entry)) ⌝ }
 {
-    entered_numbers(byte_entry::entry(marks, offsets, lengths, values, arena, key))
+    entered_numbers(byte_map_entry::entry(marks, offsets, lengths, values, arena, key))
 }
 
 // The value in an occupied handle's slot.

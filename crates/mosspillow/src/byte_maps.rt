@@ -1,10 +1,10 @@
-// The byte map for C: each call as byte_map, byte_reads, byte_copy, byte_union and byte_walk have it, its answer as numbers.
+// The byte map for C: each call as byte_map, byte_map_reads, byte_map_copy, byte_map_union and byte_map_walk have it, its answer as numbers.
 ghost use mathlib.Core.Path.{_≡_};
 ghost use Rattle.kinds.specs.Told.{told};
-ghost use Rattle.lent.specs.Moved.{movedOn};
+ghost use Rattle.kinds.specs.Moved.{movedOn};
 ghost use Rattle.kinds.specs.Calls.{makeOf, capacityOf, lenOf, isEmptyOf, reserveOf, getOf, containsOf, removeOf, copyOf, unionOf};
-ghost use Rattle.spans.specs.Kinds.{maps, insertOf, stepOf};
-ghost use Rattle.spans.specs.Maps.{before, after};
+ghost use Rattle.byte_slots.specs.Kinds.{maps, insertOf, stepOf};
+ghost use Rattle.byte_slots.specs.Maps.{before, after};
 use answers::Numbers;
 use answers::contained_numbers;
 use answers::counted_numbers;
@@ -14,7 +14,7 @@ use answers::outcome_numbers;
 use answers::removed_numbers;
 use answers::reserved_numbers;
 use answers::stored_numbers;
-use byte_walk::Walk;
+use byte_map_walk::Walk;
 use numbers::byte_maps::step_numbers;
 
 // Makes an empty map of the lent arrays.
@@ -56,7 +56,7 @@ pub extern "C" fn moss_byte_map_capacity(
 ) -> Numbers
     ensures { λ r. ⌜ r ≡ capacityOf maps (before marks offsets lengths values arena) ⌝ }
 {
-    counted_numbers(byte_reads::capacity(marks, offsets, lengths, values, arena))
+    counted_numbers(byte_map_reads::capacity(marks, offsets, lengths, values, arena))
 }
 
 // The number of keys.
@@ -70,7 +70,7 @@ pub extern "C" fn moss_byte_map_len(
 ) -> Numbers
     ensures { λ r. ⌜ r ≡ lenOf maps (before marks offsets lengths values arena) ⌝ }
 {
-    counted_numbers(byte_reads::len(marks, offsets, lengths, values, arena))
+    counted_numbers(byte_map_reads::len(marks, offsets, lengths, values, arena))
 }
 
 // Whether there is no key.
@@ -84,7 +84,7 @@ pub extern "C" fn moss_byte_map_is_empty(
 ) -> Numbers
     ensures { λ r. ⌜ r ≡ isEmptyOf maps (before marks offsets lengths values arena) ⌝ }
 {
-    emptiness_numbers(byte_reads::is_empty(marks, offsets, lengths, values, arena))
+    emptiness_numbers(byte_map_reads::is_empty(marks, offsets, lengths, values, arena))
 }
 
 // Whether so many slots are not live.
@@ -99,7 +99,7 @@ pub extern "C" fn moss_byte_map_reserve(
 ) -> Numbers
     ensures { λ r. ⌜ r ≡ reserveOf maps (before marks offsets lengths values arena) asked ⌝ }
 {
-    reserved_numbers(byte_reads::reserve(marks, offsets, lengths, values, arena, asked))
+    reserved_numbers(byte_map_reads::reserve(marks, offsets, lengths, values, arena, asked))
 }
 
 // The value of a key.
@@ -114,7 +114,7 @@ pub extern "C" fn moss_byte_map_get(
 ) -> Numbers
     ensures { λ r. ⌜ r ≡ getOf maps (before marks offsets lengths values arena) (now (key .entry)) ⌝ }
 {
-    got_numbers(byte_reads::get(marks, offsets, lengths, values, arena, key))
+    got_numbers(byte_map_reads::get(marks, offsets, lengths, values, arena, key))
 }
 
 // Whether a key is there.
@@ -129,7 +129,7 @@ pub extern "C" fn moss_byte_map_contains_key(
 ) -> Numbers
     ensures { λ r. ⌜ r ≡ containsOf maps (before marks offsets lengths values arena) (now (key .entry)) ⌝ }
 {
-    contained_numbers(byte_reads::contains_key(marks, offsets, lengths, values, arena, key))
+    contained_numbers(byte_map_reads::contains_key(marks, offsets, lengths, values, arena, key))
 }
 
 // Gives a key its value.
@@ -179,7 +179,7 @@ pub extern "C" fn moss_byte_map_copy(
 ) -> Numbers
     ensures { λ r. ⌜ told r (after «to_marks» «to_offsets» «to_lengths» «to_values» «to_arena») ≡ copyOf maps (before «to_marks» «to_offsets» «to_lengths» «to_values» «to_arena») (before marks offsets lengths values arena) ⌝ }
 {
-    outcome_numbers(byte_copy::copy(
+    outcome_numbers(byte_map_copy::copy(
         to_marks,
         to_offsets,
         to_lengths,
@@ -209,7 +209,7 @@ pub extern "C" fn moss_byte_map_union_prefer_right(
 ) -> Numbers
     ensures { λ r. ⌜ told r (after marks offsets lengths values arena) ≡ unionOf maps (before marks offsets lengths values arena) (before «right_marks» «right_offsets» «right_lengths» «right_values» «right_arena») ⌝ }
 {
-    outcome_numbers(byte_union::union_prefer_right(
+    outcome_numbers(byte_map_union::union_prefer_right(
         marks,
         offsets,
         lengths,

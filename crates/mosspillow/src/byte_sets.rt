@@ -1,10 +1,10 @@
 // The byte set for C: each call as byte_set, byte_set_reads, byte_set_copy and byte_set_walk have it, its answer as numbers.
 ghost use mathlib.Core.Path.{_≡_};
 ghost use Rattle.kinds.specs.Told.{told};
-ghost use Rattle.lent.specs.Moved.{movedOn};
+ghost use Rattle.kinds.specs.Moved.{movedOn};
 ghost use Rattle.kinds.specs.Calls.{makeOf, capacityOf, lenOf, isEmptyOf, reserveOf, containsOf, copyOf, droppedOf};
-ghost use Rattle.spans.specs.Kinds.{sets, joinOf, spanOf, setStepOf};
-ghost use Rattle.spans.specs.Sets.{before, after};
+ghost use Rattle.byte_slots.specs.Kinds.{sets, joinOf, spanOf, setStepOf};
+ghost use Rattle.byte_slots.specs.Sets.{before, after};
 use answers::Numbers;
 use answers::contained_numbers;
 use answers::counted_numbers;

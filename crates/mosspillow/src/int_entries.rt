@@ -1,14 +1,14 @@
-// The integer map's entries for C: each call as int_entry has it, its answer as numbers.
+// The integer map's entries for C: each call as int_map_entry has it, its answer as numbers.
 ghost use mathlib.Core.Path.{_≡_};
 ghost use lib.ListN.{length};
 ghost use Rattle.kinds.specs.Told.{told};
-ghost use Rattle.int_handles.specs.Calls.{removeEntryOf};
+ghost use Rattle.int_map_occupied.specs.Calls.{removeEntryOf};
 ghost use Rattle.kinds.specs.Calls.{heldOf, setOf, takenOf, standingOf, entryOf, orInsertOf, insertEntryOf};
-ghost use Rattle.ints.specs.Maps.{maps, before, after};
+ghost use Rattle.int_slots.specs.Maps.{maps, before, after};
 ghost use Rattle.numbers.specs.Handed.{handleAs};
 use answers::Numbers;
-use int_handles::Occupied;
-use int_vacant::Vacant;
+use int_map_occupied::Occupied;
+use int_map_vacant::Vacant;
 use numbers::int_entries::entered;
 use numbers::int_entries::entered_numbers;
 use numbers::int_entries::held_numbers;
@@ -27,7 +27,7 @@ pub extern "C" fn moss_int_map_entry(
 ) -> Numbers
     ensures { λ r. ⌜ r ≡ entryOf maps (before marks keys values) key ⌝ }
 {
-    entered_numbers(int_entry::entry(marks, keys, values, key))
+    entered_numbers(int_map_entry::entry(marks, keys, values, key))
 }
 
 // The value in an occupied handle's slot.

@@ -1,11 +1,11 @@
-// The integer map for C: each call as int_map, int_reads, int_copy, int_union and int_walk have it, its answer as numbers.
+// The integer map for C: each call as int_map, int_map_reads, int_map_copy, int_map_union and int_map_walk have it, its answer as numbers.
 ghost use mathlib.Core.Path.{_≡_};
 ghost use Rattle.kinds.specs.Told.{told};
-ghost use Rattle.lent.specs.Moved.{movedOn};
+ghost use Rattle.kinds.specs.Moved.{movedOn};
 ghost use Rattle.int_map.specs.Calls.{insertOf};
 ghost use Rattle.kinds.specs.Calls.{makeOf, removeOf, capacityOf, lenOf, isEmptyOf, reserveOf, getOf, containsOf, copyOf, unionOf};
-ghost use Rattle.ints.specs.Maps.{maps, before, after};
-ghost use Rattle.int_walk.specs.Calls.{stepOf};
+ghost use Rattle.int_slots.specs.Maps.{maps, before, after};
+ghost use Rattle.int_map_walk.specs.Calls.{stepOf};
 use answers::Numbers;
 use answers::contained_numbers;
 use answers::counted_numbers;
@@ -15,7 +15,7 @@ use answers::inserted_numbers;
 use answers::outcome_numbers;
 use answers::removed_numbers;
 use answers::reserved_numbers;
-use int_walk::Walk;
+use int_map_walk::Walk;
 use numbers::int_maps::step_numbers;
 
 // Makes an empty map of the lent arrays.
@@ -47,7 +47,7 @@ pub extern "C" fn moss_int_map_clear(
 pub extern "C" fn moss_int_map_capacity(marks: &[u8], keys: &[u64], values: &[u64]) -> Numbers
     ensures { λ r. ⌜ r ≡ capacityOf maps (before marks keys values) ⌝ }
 {
-    counted_numbers(int_reads::capacity(marks, keys, values))
+    counted_numbers(int_map_reads::capacity(marks, keys, values))
 }
 
 // The number of keys.
@@ -55,7 +55,7 @@ pub extern "C" fn moss_int_map_capacity(marks: &[u8], keys: &[u64], values: &[u6
 pub extern "C" fn moss_int_map_len(marks: &[u8], keys: &[u64], values: &[u64]) -> Numbers
     ensures { λ r. ⌜ r ≡ lenOf maps (before marks keys values) ⌝ }
 {
-    counted_numbers(int_reads::len(marks, keys, values))
+    counted_numbers(int_map_reads::len(marks, keys, values))
 }
 
 // Whether there is no key.
@@ -63,7 +63,7 @@ pub extern "C" fn moss_int_map_len(marks: &[u8], keys: &[u64], values: &[u64]) -
 pub extern "C" fn moss_int_map_is_empty(marks: &[u8], keys: &[u64], values: &[u64]) -> Numbers
     ensures { λ r. ⌜ r ≡ isEmptyOf maps (before marks keys values) ⌝ }
 {
-    emptiness_numbers(int_reads::is_empty(marks, keys, values))
+    emptiness_numbers(int_map_reads::is_empty(marks, keys, values))
 }
 
 // Whether so many slots are not live.
@@ -76,7 +76,7 @@ pub extern "C" fn moss_int_map_reserve(
 ) -> Numbers
     ensures { λ r. ⌜ r ≡ reserveOf maps (before marks keys values) asked ⌝ }
 {
-    reserved_numbers(int_reads::reserve(marks, keys, values, asked))
+    reserved_numbers(int_map_reads::reserve(marks, keys, values, asked))
 }
 
 // The value of a key.
@@ -84,7 +84,7 @@ pub extern "C" fn moss_int_map_reserve(
 pub extern "C" fn moss_int_map_get(marks: &[u8], keys: &[u64], values: &[u64], key: u64) -> Numbers
     ensures { λ r. ⌜ r ≡ getOf maps (before marks keys values) key ⌝ }
 {
-    got_numbers(int_reads::get(marks, keys, values, key))
+    got_numbers(int_map_reads::get(marks, keys, values, key))
 }
 
 // Whether a key is there.
@@ -97,7 +97,7 @@ pub extern "C" fn moss_int_map_contains_key(
 ) -> Numbers
     ensures { λ r. ⌜ r ≡ containsOf maps (before marks keys values) key ⌝ }
 {
-    contained_numbers(int_reads::contains_key(marks, keys, values, key))
+    contained_numbers(int_map_reads::contains_key(marks, keys, values, key))
 }
 
 // Gives a key its value.
@@ -139,7 +139,7 @@ pub extern "C" fn moss_int_map_copy(
 ) -> Numbers
     ensures { λ r. ⌜ told r (after «to_marks» «to_keys» «to_values») ≡ copyOf maps (before «to_marks» «to_keys» «to_values») (before marks keys values) ⌝ }
 {
-    outcome_numbers(int_copy::copy(to_marks, to_keys, to_values, marks, keys, values))
+    outcome_numbers(int_map_copy::copy(to_marks, to_keys, to_values, marks, keys, values))
 }
 
 // Puts the right's pairs into the left, all or none.
@@ -154,7 +154,7 @@ pub extern "C" fn moss_int_map_union_prefer_right(
 ) -> Numbers
     ensures { λ r. ⌜ told r (after marks keys values) ≡ unionOf maps (before marks keys values) (before «right_marks» «right_keys» «right_values») ⌝ }
 {
-    outcome_numbers(int_union::union_prefer_right(
+    outcome_numbers(int_map_union::union_prefer_right(
         marks,
         keys,
         values,

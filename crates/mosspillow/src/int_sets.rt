@@ -1,8 +1,8 @@
 // The integer set for C: each call as int_set, int_set_reads, int_set_copy and int_set_walk have it, its answer as numbers.
 ghost use mathlib.Core.Path.{_≡_};
 ghost use Rattle.kinds.specs.Told.{told};
-ghost use Rattle.lent.specs.Moved.{movedOn};
-ghost use Rattle.ints.specs.Sets.{sets, before, after};
+ghost use Rattle.kinds.specs.Moved.{movedOn};
+ghost use Rattle.int_slots.specs.Sets.{sets, before, after};
 ghost use Rattle.int_set.specs.Calls.{insertOf};
 ghost use Rattle.kinds.specs.Calls.{makeOf, droppedOf, capacityOf, lenOf, isEmptyOf, reserveOf, containsOf, copyOf};
 ghost use Rattle.int_set_reads.specs.Calls.{getOf};

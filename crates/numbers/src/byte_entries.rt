@@ -1,21 +1,21 @@
 // The byte map's entries: the numbers of their answers, and the entry answer that a case number and a slot are.
 ghost use mathlib.Core.Path.{_≡_};
-ghost use Rattle.byte_entry.specs.Numbers.{enteredNumbers};
-ghost use Rattle.byte_handles.specs.Numbers.{heldNumbers, swappedNumbers, takenNumbers};
-ghost use Rattle.byte_vacant.specs.Numbers.{standingNumbers};
-ghost use Rattle.byte_entry.specs.Calls.{handleOf};
+ghost use Rattle.byte_map_entry.specs.Numbers.{enteredNumbers};
+ghost use Rattle.byte_map_occupied.specs.Numbers.{heldNumbers, swappedNumbers, takenNumbers};
+ghost use Rattle.byte_map_vacant.specs.Numbers.{standingNumbers};
+ghost use Rattle.byte_map_entry.specs.Calls.{handleOf};
 ghost use Rattle.numbers.specs.Handed.{Hands};
 use answers::Numbers;
 use answers::Refusal;
 use answers::case_numbers;
 use answers::refusal_numbers;
-use byte_entry::Entered;
-use byte_handles::Held;
-use byte_handles::Occupied;
-use byte_handles::Swapped;
-use byte_handles::Taken;
-use byte_vacant::Standing;
-use byte_vacant::Vacant;
+use byte_map_entry::Entered;
+use byte_map_occupied::Held;
+use byte_map_occupied::Occupied;
+use byte_map_occupied::Swapped;
+use byte_map_occupied::Taken;
+use byte_map_vacant::Standing;
+use byte_map_vacant::Vacant;
 
 // The numbers of entry.
 pub fn entered_numbers(a: Entered) -> Numbers

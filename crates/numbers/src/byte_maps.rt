@@ -1,12 +1,12 @@
 // The byte map's walk: the numbers of a step.
 ghost use mathlib.Core.Path.{_≡_};
-ghost use Rattle.byte_walk.specs.Numbers.{stepNumbers};
+ghost use Rattle.byte_map_walk.specs.Numbers.{stepNumbers};
 use crate::span_walk_numbers;
 use crate::walk_numbers;
 use answers::Numbers;
 use answers::number;
-use byte_walk::Paced;
-use byte_walk::Stride;
+use byte_map_walk::Paced;
+use byte_map_walk::Stride;
 
 // The numbers of a step of a walk.
 pub fn step_numbers(s: Stride) -> Numbers

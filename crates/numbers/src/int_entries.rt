@@ -1,22 +1,22 @@
 // The integer map's entries: the numbers of their answers, and the entry answer that a case number and a slot are.
 ghost use mathlib.Core.Path.{_≡_};
-ghost use Rattle.int_entry.specs.Numbers.{enteredNumbers};
-ghost use Rattle.int_handles.specs.Numbers.{heldNumbers, swappedNumbers, takenNumbers, takenEntryNumbers};
-ghost use Rattle.int_vacant.specs.Numbers.{standingNumbers};
-ghost use Rattle.int_entry.specs.Calls.{handleOf};
+ghost use Rattle.int_map_entry.specs.Numbers.{enteredNumbers};
+ghost use Rattle.int_map_occupied.specs.Numbers.{heldNumbers, swappedNumbers, takenNumbers, takenEntryNumbers};
+ghost use Rattle.int_map_vacant.specs.Numbers.{standingNumbers};
+ghost use Rattle.int_map_entry.specs.Calls.{handleOf};
 ghost use Rattle.numbers.specs.Handed.{Hands};
 use answers::Numbers;
 use answers::Refusal;
 use answers::case_numbers;
 use answers::refusal_numbers;
-use int_entry::Entered;
-use int_handles::Held;
-use int_handles::Occupied;
-use int_handles::Swapped;
-use int_handles::Taken;
-use int_handles::TakenEntry;
-use int_vacant::Standing;
-use int_vacant::Vacant;
+use int_map_entry::Entered;
+use int_map_occupied::Held;
+use int_map_occupied::Occupied;
+use int_map_occupied::Swapped;
+use int_map_occupied::Taken;
+use int_map_occupied::TakenEntry;
+use int_map_vacant::Standing;
+use int_map_vacant::Vacant;
 
 // The numbers of entry.
 pub fn entered_numbers(a: Entered) -> Numbers

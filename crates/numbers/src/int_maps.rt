@@ -1,11 +1,11 @@
 // The integer map's walk: the numbers of a step.
 ghost use mathlib.Core.Path.{_≡_};
-ghost use Rattle.int_walk.specs.Numbers.{stepNumbers};
+ghost use Rattle.int_map_walk.specs.Numbers.{stepNumbers};
 use crate::walk_numbers;
 use answers::Numbers;
 use answers::number;
-use int_walk::Paced;
-use int_walk::Stride;
+use int_map_walk::Paced;
+use int_map_walk::Stride;
 
 // The numbers of a step of a walk.
 pub fn step_numbers(s: Stride) -> Numbers

@@ -36,14 +36,14 @@ use Rattle.kinds.specs.Published.{Linked, ZerosElsewhere, PathCounted, asked, g
 use Rattle.kinds.specs.Told.{told}
 use Rattle.kinds.proofs.Columns.{values-orderly}
 use Rattle.kinds.proofs.Published.{reported, lowest-told, refused-same, named-only, lent-zeros, inserted-known, removed-known, told-in-step, told-owed, told-rest, walk-told, iterated-told, heard-step}
-use Rattle.lent.specs.Moved.{movedOn}
-use Rattle.spans.specs.Memory.{Strings, part, usedOf, askedOf, offsetAt, lengthAt}
-use Rattle.spans.specs.Kinds.{maps, insertOf, stepOf}
-use Rattle.spans.specs.Places.{Place, wordIn, places}
-use Rattle.spans.proofs.Keys.{asked-bar, kept-bar}
-use Rattle.spans.proofs.Lawful.{strings-lawful}
-use Rattle.spans.proofs.Places.{strings-steady, strings-apart}
-use Rattle.byte_entry.specs.Calls.{handleOf}
+use Rattle.kinds.specs.Moved.{movedOn}
+use Rattle.byte_slots.specs.Memory.{Strings, part, usedOf, askedOf, offsetAt, lengthAt}
+use Rattle.byte_slots.specs.Kinds.{maps, insertOf, stepOf}
+use Rattle.byte_slots.specs.Places.{Place, wordIn, places}
+use Rattle.byte_slots.proofs.Keys.{asked-bar, kept-bar}
+use Rattle.byte_slots.proofs.Lawful.{strings-lawful}
+use Rattle.byte_slots.proofs.Places.{strings-steady, strings-apart}
+use Rattle.byte_map_entry.specs.Calls.{handleOf}
 use Rattle.promises.proofs.Spans.{handed-slot, fresh-bytes, used-told}
 use Rattle.promises.specs.ByteMap.{Call, make, clear, capacity, len, is-empty, reserve, get, contains-key, remove, entry, copy, union-prefer-right, insert, occupied-get, occupied-remove, occupied-remove-entry, step, occupied-set, vacant-insert, or-insert, insert-entry, told-by, meant, published, pairTold, Owes, heard, lent-by, owed, Stands}
 

@@ -36,13 +36,13 @@ use Rattle.kinds.specs.Told.{told}
 use Rattle.kinds.proofs.Columns.{nothing-orderly}
 use Rattle.kinds.proofs.Published.{reported, lowest-told, refused-same, named-only, lent-zeros, inserted-known, removed-known, told-in-step, told-owed, told-rest, walk-told, iterated-told, heard-step}
 use Rattle.kinds.specs.Calls.{makeOf, capacityOf, lenOf, isEmptyOf, reserveOf, containsOf, copyOf, droppedOf}
-use Rattle.lent.specs.Moved.{movedOn}
-use Rattle.spans.specs.Memory.{Strings, part, usedOf, askedOf, offsetAt, lengthAt}
-use Rattle.spans.specs.Kinds.{sets, joinOf, spanOf, setStepOf}
-use Rattle.spans.specs.Places.{Place, wordIn, places}
-use Rattle.spans.proofs.Keys.{asked-bar, kept-bar}
-use Rattle.spans.proofs.Lawful.{strings-lawful}
-use Rattle.spans.proofs.Places.{strings-steady, strings-apart}
+use Rattle.kinds.specs.Moved.{movedOn}
+use Rattle.byte_slots.specs.Memory.{Strings, part, usedOf, askedOf, offsetAt, lengthAt}
+use Rattle.byte_slots.specs.Kinds.{sets, joinOf, spanOf, setStepOf}
+use Rattle.byte_slots.specs.Places.{Place, wordIn, places}
+use Rattle.byte_slots.proofs.Keys.{asked-bar, kept-bar}
+use Rattle.byte_slots.proofs.Lawful.{strings-lawful}
+use Rattle.byte_slots.proofs.Places.{strings-steady, strings-apart}
 use Rattle.promises.proofs.Spans.{found-bytes, handed-slot, fresh-bytes, used-told}
 use Rattle.promises.specs.ByteSet.{Call, make, clear, capacity, len, is-empty, reserve, get, contains, insert, remove, copy, step, told-by, meant, published, keyTold, Owes, heard, lent-by, owed, Stands}
 

@@ -34,15 +34,15 @@ use Rattle.kinds.specs.Told.{told}
 use Rattle.kinds.proofs.Columns.{values-orderly}
 use Rattle.kinds.proofs.Published.{reported, lowest-told, refused-same, named-only, lent-zeros, inserted-known, removed-known, told-in-step, told-owed, told-rest, walk-told, iterated-told, heard-step}
 use Rattle.kinds.specs.Calls.{makeOf, removeOf, capacityOf, lenOf, isEmptyOf, reserveOf, getOf, containsOf, copyOf, unionOf, setOf, entryOf, orInsertOf, insertEntryOf, heldOf, takenOf, standingOf, slotOf}
-use Rattle.lent.specs.Moved.{movedOn}
-use Rattle.ints.specs.Places.{Place, wordIn, places}
-use Rattle.ints.proofs.Lawful.{cells-lawful}
-use Rattle.ints.proofs.Places.{cells-steady, cells-apart}
-use Rattle.ints.specs.Maps.{maps}
-use Rattle.int_entry.specs.Calls.{handleOf}
+use Rattle.kinds.specs.Moved.{movedOn}
+use Rattle.int_slots.specs.Places.{Place, wordIn, places}
+use Rattle.int_slots.proofs.Lawful.{cells-lawful}
+use Rattle.int_slots.proofs.Places.{cells-steady, cells-apart}
+use Rattle.int_slots.specs.Maps.{maps}
+use Rattle.int_map_entry.specs.Calls.{handleOf}
 use Rattle.int_map.specs.Calls.{insertOf}
-use Rattle.int_walk.specs.Calls.{stepOf}
-use Rattle.int_handles.specs.Calls.{removeEntryOf}
+use Rattle.int_map_walk.specs.Calls.{stepOf}
+use Rattle.int_map_occupied.specs.Calls.{removeEntryOf}
 use Rattle.promises.specs.IntMap.{Call, make, clear, capacity, len, is-empty, reserve, get, contains-key, remove, entry, copy, union-prefer-right, insert, occupied-get, occupied-remove, occupied-remove-entry, step, occupied-set, vacant-insert, or-insert, insert-entry, told-by, meant, published, pairTold, Owes, heard, lent-by, owed}
 
 -- Integer maps are a lawful store.

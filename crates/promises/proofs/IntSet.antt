@@ -34,11 +34,11 @@ use Rattle.kinds.specs.Told.{told}
 use Rattle.kinds.proofs.Columns.{nothing-orderly}
 use Rattle.kinds.proofs.Published.{reported, lowest-told, refused-same, named-only, lent-zeros, inserted-known, removed-known, told-in-step, told-owed, told-rest, walk-told, iterated-told, heard-step}
 use Rattle.kinds.specs.Calls.{makeOf, droppedOf, capacityOf, lenOf, isEmptyOf, reserveOf, containsOf, copyOf}
-use Rattle.lent.specs.Moved.{movedOn}
-use Rattle.ints.specs.Places.{Place, wordIn, places}
-use Rattle.ints.proofs.Lawful.{cells-lawful}
-use Rattle.ints.proofs.Places.{cells-steady, cells-apart}
-use Rattle.ints.specs.Sets.{sets}
+use Rattle.kinds.specs.Moved.{movedOn}
+use Rattle.int_slots.specs.Places.{Place, wordIn, places}
+use Rattle.int_slots.proofs.Lawful.{cells-lawful}
+use Rattle.int_slots.proofs.Places.{cells-steady, cells-apart}
+use Rattle.int_slots.specs.Sets.{sets}
 use Rattle.int_set.specs.Calls.{insertOf}
 use Rattle.int_set_reads.specs.Calls.{getOf}
 use Rattle.int_set_walk.specs.Calls.{stepOf}

@@ -11,9 +11,9 @@ use lib.ListN.{length, getD}
 use Rattle.model.proofs.Cases.{by-bool, both}
 use Rattle.kinds.specs.Columns.{Column, values, nothing}
 use Rattle.kinds.specs.Marks.{cell}
-use Rattle.ints.specs.Memory.{Cells, cells}
-use Rattle.spans.specs.Memory.{Strings, strings, part, endAt, keyAt, fitting, askedOf, keptOf, offsetAt, lengthAt}
-use Rattle.spans.proofs.Held.{by-slot}
+use Rattle.int_slots.specs.Memory.{Cells, cells}
+use Rattle.byte_slots.specs.Memory.{Strings, strings, part, endAt, keyAt, fitting, askedOf, keptOf, offsetAt, lengthAt}
+use Rattle.byte_slots.proofs.Held.{by-slot}
 use Rattle.promises.specs.Marks.{SlotSays, mark-0, mark-1, mark-1-past, mark-2, mark-above}
 
 cell-says : {K W : Type 0} (n : ℕ) (k : K) (v : W) → SlotSays n (Unit {0}) k v (cell n k v)

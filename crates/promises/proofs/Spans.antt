@@ -17,10 +17,10 @@ use Rattle.model.proofs.Laws.{step-pair, get-found-there}
 use Rattle.model.proofs.Exact.{used-mass}
 use Rattle.kinds.specs.Columns.{Column}
 use Rattle.kinds.proofs.Columns.{Orderly}
-use Rattle.spans.specs.Memory.{Strings, strings, part, keyAt, usedOf, harmful, filled, offsetAt, lengthAt}
-use Rattle.spans.proofs.Arena.{part-pasted-key}
-use Rattle.spans.proofs.Held.{live-says, unharmed-says}
-use Rattle.spans.proofs.Lawful.{used-is, strings-lawful}
+use Rattle.byte_slots.specs.Memory.{Strings, strings, part, keyAt, usedOf, harmful, filled, offsetAt, lengthAt}
+use Rattle.byte_slots.proofs.Arena.{part-pasted-key}
+use Rattle.byte_slots.proofs.Held.{live-says, unharmed-says}
+use Rattle.byte_slots.proofs.Lawful.{used-is, strings-lawful}
 
 module _ {W : Type 0} (C : Column W) (m : Strings C) where
   -- The bytes of a slot that holds a key are the key's.

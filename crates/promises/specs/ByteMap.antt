@@ -20,11 +20,11 @@ use Rattle.model.specs.Calls.{Or}
 use Rattle.model.specs.Walk.{Paced}
 use Rattle.model.specs.Demand2.{Book}
 use Rattle.answers.specs.declared.Numbers.{Numbers}
-use Rattle.lent.specs.Moved.{movedOn}
-use Rattle.spans.specs.Memory.{Strings, part, offsetAt, lengthAt}
-use Rattle.spans.specs.Kinds.{maps, insertOf, stepOf}
-use Rattle.byte_entry.specs.declared.Entered.{Entered}
-use Rattle.byte_entry.specs.Calls.{handleOf}
+use Rattle.kinds.specs.Moved.{movedOn}
+use Rattle.byte_slots.specs.Memory.{Strings, part, offsetAt, lengthAt}
+use Rattle.byte_slots.specs.Kinds.{maps, insertOf, stepOf}
+use Rattle.byte_map_entry.specs.declared.Entered.{Entered}
+use Rattle.byte_map_entry.specs.Calls.{handleOf}
 
 -- One constructor for each published call: keys are byte strings, values, slots and budgets numbers, another table is its number.
 pub data Call : Type 0 where

@@ -19,9 +19,9 @@ use Rattle.kinds.specs.Told.{Told, told}
 use Rattle.kinds.specs.Calls.{makeOf, capacityOf, lenOf, isEmptyOf, reserveOf, containsOf, copyOf, droppedOf}
 use Rattle.kinds.specs.Published.{Published, Duty, heardAs}
 use Rattle.kinds.specs.Owed.{refusing, only, counting, standing, copying, looking, placing, Paces, spanning, handing}
-use Rattle.lent.specs.Moved.{movedOn}
-use Rattle.spans.specs.Memory.{Strings, part, offsetAt, lengthAt}
-use Rattle.spans.specs.Kinds.{sets, joinOf, spanOf, setStepOf}
+use Rattle.kinds.specs.Moved.{movedOn}
+use Rattle.byte_slots.specs.Memory.{Strings, part, offsetAt, lengthAt}
+use Rattle.byte_slots.specs.Kinds.{sets, joinOf, spanOf, setStepOf}
 
 -- One constructor for each published call: keys are byte strings, budgets are numbers, another table is its number.
 pub data Call : Type 0 where

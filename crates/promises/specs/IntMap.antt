@@ -17,15 +17,15 @@ use Rattle.model.specs.Calls.{Or}
 use Rattle.model.specs.Walk.{Paced}
 use Rattle.model.specs.Demand2.{Book}
 use Rattle.answers.specs.declared.Numbers.{Numbers}
-use Rattle.lent.specs.Moved.{movedOn}
-use Rattle.ints.specs.Memory.{Cells}
-use Rattle.ints.specs.Maps.{maps}
+use Rattle.kinds.specs.Moved.{movedOn}
+use Rattle.int_slots.specs.Memory.{Cells}
+use Rattle.int_slots.specs.Maps.{maps}
 use Rattle.int_map.specs.Calls.{insertOf}
 use Rattle.kinds.specs.Calls.{makeOf, removeOf, capacityOf, lenOf, isEmptyOf, reserveOf, getOf, containsOf, copyOf, unionOf, setOf, entryOf, orInsertOf, insertEntryOf, heldOf, takenOf, standingOf}
-use Rattle.int_walk.specs.Calls.{stepOf}
-use Rattle.int_handles.specs.Calls.{removeEntryOf}
-use Rattle.int_entry.specs.declared.Entered.{Entered}
-use Rattle.int_entry.specs.Calls.{handleOf}
+use Rattle.int_map_walk.specs.Calls.{stepOf}
+use Rattle.int_map_occupied.specs.Calls.{removeEntryOf}
+use Rattle.int_map_entry.specs.declared.Entered.{Entered}
+use Rattle.int_map_entry.specs.Calls.{handleOf}
 
 -- One constructor for each published call: keys, values, slots and budgets are numbers, another table is its number.
 pub data Call : Type 0 where

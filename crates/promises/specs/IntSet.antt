@@ -16,9 +16,9 @@ use Rattle.kinds.specs.Told.{Told, told}
 use Rattle.kinds.specs.Published.{Published, Duty, heardAs}
 use Rattle.kinds.specs.Owed.{refusing, only, counting, standing, copying, looking, placing, Paces, handing}
 use Rattle.kinds.specs.Calls.{makeOf, droppedOf, capacityOf, lenOf, isEmptyOf, reserveOf, containsOf, copyOf}
-use Rattle.lent.specs.Moved.{movedOn}
-use Rattle.ints.specs.Memory.{Cells}
-use Rattle.ints.specs.Sets.{sets}
+use Rattle.kinds.specs.Moved.{movedOn}
+use Rattle.int_slots.specs.Memory.{Cells}
+use Rattle.int_slots.specs.Sets.{sets}
 use Rattle.int_set.specs.Calls.{insertOf}
 use Rattle.int_set_reads.specs.Calls.{getOf}
 use Rattle.int_set_walk.specs.Calls.{stepOf}

@@ -5,8 +5,8 @@ use answers::Got;
 use answers::Inserted;
 use answers::Refusal;
 use answers::Removed;
-use int_walk::Paced;
-use int_walk::Walk;
+use int_map_walk::Paced;
+use int_map_walk::Walk;
 use libc::EINTR;
 use libc::STDIN_FILENO;
 use libc::STDOUT_FILENO;
@@ -72,7 +72,7 @@ fn remove(marks: &mut [u8], keys: &mut [u64], values: &mut [u64], key: u64) {
 
 // `g K`: found with value and examined number, or absent with examined number.
 fn get(marks: &[u8], keys: &[u64], values: &[u64], key: u64) {
-    let said = int_reads::get(marks, keys, values, key);
+    let said = int_map_reads::get(marks, keys, values, key);
     match said {
         Got::Found(value, _, examined) => {
             say(b"found ");

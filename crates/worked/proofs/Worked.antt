@@ -12,16 +12,16 @@ use Rattle.digest.specs.Digest.{mixOf, moreOf}
 use Rattle.kinds.specs.Marks.{cell}
 use Rattle.kinds.specs.Calls.{makeOf, capacityOf, lenOf, isEmptyOf, reserveOf, containsOf, copyOf, droppedOf, unionOf, getOf, removeOf, entryOf, heldOf, setOf, takenOf, standingOf, orInsertOf, insertEntryOf, slotOf}
 use Rattle.int_map.specs.Calls as int-map
-use Rattle.int_handles.specs.Calls.{removeEntryOf}
-use Rattle.int_entry.specs.Calls as int-entry
-use Rattle.int_walk.specs.Calls as int-walk
+use Rattle.int_map_occupied.specs.Calls.{removeEntryOf}
+use Rattle.int_map_entry.specs.Calls as int-entry
+use Rattle.int_map_walk.specs.Calls as int-walk
 use Rattle.int_set.specs.Calls as int-set
 use Rattle.int_set_reads.specs.Calls as int-set-reads
 use Rattle.int_set_walk.specs.Calls as int-set-walk
-use Rattle.byte_entry.specs.Calls as byte-entry
-use Rattle.spans.specs.Keys.{sameBytes}
-use Rattle.spans.specs.Memory.{part, endAt, keyAt, spanned, slotsOf, usedOf, beyond, harmful, fitting, pasted, closed, fall, fallen, filled, emptied, wiped, askedOf, keptOf}
-use Rattle.spans.specs.Kinds as bytes
+use Rattle.byte_map_entry.specs.Calls as byte-entry
+use Rattle.byte_slots.specs.Keys.{sameBytes}
+use Rattle.byte_slots.specs.Memory.{part, endAt, keyAt, spanned, slotsOf, usedOf, beyond, harmful, fitting, pasted, closed, fall, fallen, filled, emptied, wiped, askedOf, keptOf}
+use Rattle.byte_slots.specs.Kinds as bytes
 use Rattle.promises.specs.IntMap as int-maps
 use Rattle.promises.specs.IntSet as int-sets
 use Rattle.promises.specs.ByteMap as byte-maps

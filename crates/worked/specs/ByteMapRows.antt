@@ -6,10 +6,10 @@ use lib.Dec.{eqb}
 use Rattle.answers.specs.declared.Numbers.{Numbers}
 use Rattle.kinds.specs.Columns.{values}
 use Rattle.kinds.specs.Told.{Told, told}
-use Rattle.spans.specs.Memory.{Strings}
-use Rattle.spans.specs.Kinds.{mapMemory}
-use Rattle.byte_entry.specs.declared.Entered.{Entered}
-use Rattle.byte_entry.specs.declared.Entered.the-variants.{Occupied}
+use Rattle.byte_slots.specs.Memory.{Strings}
+use Rattle.byte_slots.specs.Kinds.{mapMemory}
+use Rattle.byte_map_entry.specs.declared.Entered.{Entered}
+use Rattle.byte_map_entry.specs.declared.Entered.the-variants.{Occupied}
 use Rattle.promises.specs.ByteMap.{Call, make, clear, capacity, len, is-empty, reserve, get, contains-key, remove, entry, copy, union-prefer-right, insert, occupied-get, occupied-remove, occupied-remove-entry, step, occupied-set, vacant-insert, or-insert, insert-entry, told-by}
 use Rattle.worked.specs.Rows.{Row}
 

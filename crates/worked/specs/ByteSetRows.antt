@@ -6,8 +6,8 @@ use lib.Dec.{eqb}
 use Rattle.answers.specs.declared.Numbers.{Numbers}
 use Rattle.kinds.specs.Columns.{nothing}
 use Rattle.kinds.specs.Told.{Told, told}
-use Rattle.spans.specs.Memory.{Strings}
-use Rattle.spans.specs.Kinds.{setMemory}
+use Rattle.byte_slots.specs.Memory.{Strings}
+use Rattle.byte_slots.specs.Kinds.{setMemory}
 use Rattle.promises.specs.ByteSet.{Call, make, clear, capacity, len, is-empty, reserve, get, contains, insert, remove, copy, step, told-by}
 use Rattle.worked.specs.Rows.{Row}
 

@@ -6,9 +6,9 @@ use lib.Dec.{eqb}
 use Rattle.answers.specs.declared.Numbers.{Numbers}
 use Rattle.kinds.specs.Columns.{values}
 use Rattle.kinds.specs.Told.{Told, told}
-use Rattle.ints.specs.Memory.{Cells, memory}
-use Rattle.int_entry.specs.declared.Entered.{Entered}
-use Rattle.int_entry.specs.declared.Entered.the-variants.{Occupied}
+use Rattle.int_slots.specs.Memory.{Cells, memory}
+use Rattle.int_map_entry.specs.declared.Entered.{Entered}
+use Rattle.int_map_entry.specs.declared.Entered.the-variants.{Occupied}
 use Rattle.promises.specs.IntMap.{Call, make, clear, capacity, len, is-empty, reserve, get, contains-key, remove, entry, copy, union-prefer-right, insert, occupied-get, occupied-remove, occupied-remove-entry, step, occupied-set, vacant-insert, or-insert, insert-entry, told-by}
 use Rattle.worked.specs.Rows.{Row}
 

@@ -6,8 +6,8 @@ use lib.Dec.{eqb}
 use Rattle.answers.specs.declared.Numbers.{Numbers}
 use Rattle.kinds.specs.Columns.{nothing}
 use Rattle.kinds.specs.Told.{Told, told}
-use Rattle.ints.specs.Memory.{Cells}
-use Rattle.ints.specs.Sets.{memory}
+use Rattle.int_slots.specs.Memory.{Cells}
+use Rattle.int_slots.specs.Sets.{memory}
 use Rattle.promises.specs.IntSet.{Call, make, clear, capacity, len, is-empty, reserve, get, contains, insert, remove, copy, step, told-by}
 use Rattle.worked.specs.Rows.{Row}
 

@@ -3,7 +3,7 @@ use borrow.Author.Needs.{needs}
 use Rattle.model.specs.Calls.{storedBy}
 use Rattle.answers.specs.Numbers.{joinedNumbers}
 use Rattle.answers.specs.Said.{joinedSaid}
-use Rattle.arena.proofs.Plans.{place-fillable}
+use Rattle.byte_arena.proofs.Plans.{place-fillable}
 use Rattle.byte_set.proofs.Laws.{insert-says, insert-fresh}
 use Rattle.byte_set.proofs.insert.Statement.{statement}
 use Rattle.byte_set.proofs.insert.Tie as tie

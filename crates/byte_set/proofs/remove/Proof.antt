@@ -3,7 +3,7 @@ use borrow.Author.Needs.{needs}
 use Rattle.model.specs.Calls.{removedBy}
 use Rattle.answers.specs.Numbers.{droppedNumbers}
 use Rattle.answers.specs.Said.{droppedSaid}
-use Rattle.arena.proofs.Plans.{locate-freeable}
+use Rattle.byte_arena.proofs.Plans.{locate-freeable}
 use Rattle.byte_set.proofs.Laws.{remove-says, remove-hit}
 use Rattle.byte_set.proofs.remove.Statement.{statement}
 use Rattle.byte_set.proofs.remove.Tie as tie

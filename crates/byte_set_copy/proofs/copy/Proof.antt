@@ -1,7 +1,7 @@
 -- `byte_set_copy::copy` meets its contract: refusal 1, or every slot and byte is the other table's.
 use borrow.Author.Needs.{needs}
 use Rattle.byte_set_copy.proofs.Laws.{copy-done, copy-slots-unequal, copy-from-unfit, copy-unfit}
-use Rattle.byte_copy.proofs.Laws.{copy-arena}
+use Rattle.byte_map_copy.proofs.Laws.{copy-arena}
 use Rattle.byte_set_copy.proofs.copy.Statement.{statement}
 use Rattle.byte_set_copy.proofs.copy.Tie as tie
 

@@ -1,6 +1,6 @@
 -- `byte_set_reads::is_empty` meets its contract: as the length, told as whether it is 0.
 use borrow.Author.Needs.{needs}
-use Rattle.spans.specs.Kinds.{sets}
+use Rattle.byte_slots.specs.Kinds.{sets}
 use Rattle.kinds.proofs.Counts.{empty-none, empty-some, empty-not}
 use Rattle.byte_set_reads.proofs.is_empty.Statement.{statement}
 use Rattle.byte_set_reads.proofs.is_empty.Tie as tie

@@ -1,7 +1,7 @@
 -- `byte_set_reads::len` meets its contract: refusal 1 or 5, or the number of live marks.
 use mathlib.Core.Path.{sym, _∙_}
 use borrow.Author.Needs.{needs}
-use Rattle.spans.proofs.Sizes.{fitting-says}
+use Rattle.byte_slots.proofs.Sizes.{fitting-says}
 use Rattle.byte_set_reads.proofs.Laws.{len-live, len-bad, len-not}
 use Rattle.byte_set_reads.proofs.len.Statement.{statement}
 use Rattle.byte_set_reads.proofs.len.Tie as tie

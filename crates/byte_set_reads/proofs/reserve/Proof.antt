@@ -1,7 +1,7 @@
 -- `byte_set_reads::reserve` meets its contract: refusals 1, 5 and 7, or room.
 use borrow.Author.Needs.{needs}
 use native.Mathlib.Omega.{arith}
-use Rattle.spans.specs.Kinds.{sets}
+use Rattle.byte_slots.specs.Kinds.{sets}
 use Rattle.kinds.proofs.Counts.{count-within, reserve-room, reserve-none, reserve-not}
 use Rattle.byte_set_reads.proofs.reserve.Statement.{statement}
 use Rattle.byte_set_reads.proofs.reserve.Tie as tie

@@ -1,7 +1,7 @@
 -- `int_map::insert` meets its contract: the value changes in the key's slot, or the first free slot takes the key.
 use borrow.Author.Needs.{needs}
 use native.Mathlib.Omega.{arith}
-use Rattle.ints.proofs.Seeking.{hit-inside, free-inside}
+use Rattle.int_slots.proofs.Seeking.{hit-inside, free-inside}
 use Rattle.int_map.proofs.Laws.{insert-hit, insert-free, insert-full, insert-refused}
 use Rattle.int_map.proofs.insert.Statement.{statement}
 use Rattle.int_map.proofs.insert.Tie as tie

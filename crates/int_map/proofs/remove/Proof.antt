@@ -1,7 +1,7 @@
 -- `int_map::remove` meets its contract: the found slot is freed, its words become 0.
 use borrow.Author.Needs.{needs}
 use native.Mathlib.Omega.{arith}
-use Rattle.ints.proofs.Seeking.{hit-inside}
+use Rattle.int_slots.proofs.Seeking.{hit-inside}
 use Rattle.int_map.proofs.Laws.{remove-hit, remove-free, remove-full, remove-refused}
 use Rattle.int_map.proofs.remove.Statement.{statement}
 use Rattle.int_map.proofs.remove.Tie as tie

@@ -1,7 +1,7 @@
 -- `int_set_walk::pace` meets its contract: the key of the first live slot, refusal 5, or nothing.
 use borrow.Author.Needs.{needs}
 use native.Mathlib.Omega.{arith}
-use Rattle.ints.proofs.Bridge.{next-inside}
+use Rattle.int_slots.proofs.Bridge.{next-inside}
 use Rattle.int_set_walk.proofs.Steps.{pace-live, pace-bad, pace-none}
 use Rattle.int_set_walk.proofs.pace.Statement.{statement}
 use Rattle.int_set_walk.proofs.pace.Tie as tie

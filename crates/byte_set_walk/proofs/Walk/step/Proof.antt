@@ -1,7 +1,7 @@
 -- `byte_set_walk::Walk::step` meets its contract: refusals 1, 3 and 4, done at S, else the slots within the reach.
 use mathlib.Core.Path.{sym, _∙_}
 use borrow.Author.Needs.{needs}
-use Rattle.spans.proofs.Sizes.{fitting-says}
+use Rattle.byte_slots.proofs.Sizes.{fitting-says}
 use Rattle.byte_set_walk.proofs.Steps.{step-unfit, step-unpaid, step-beyond, step-done, pace-fits, step-pace}
 use Rattle.byte_set_walk.proofs.Walk.step.Statement.{statement}
 use Rattle.byte_set_walk.proofs.Walk.step.Tie as tie

@@ -1,5 +1,5 @@
 -- `step_numbers` meets its contract: each arm hands over what the definition says.
-use Rattle.byte_walk.specs.Numbers.{stepNumbers, pacedNumbers}
+use Rattle.byte_map_walk.specs.Numbers.{stepNumbers, pacedNumbers}
 use borrow.Author.Needs.{needs}
 use Rattle.numbers.proofs.byte_maps.step_numbers.Statement.{statement}
 use Rattle.numbers.proofs.byte_maps.step_numbers.Tie as tie

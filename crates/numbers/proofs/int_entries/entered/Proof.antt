@@ -1,6 +1,6 @@
 -- `entered` meets its contract: case 12 is an occupied handle of the slot, 13 a vacant one, any other number neither.
 use borrow.Author.Tests.{eq-eqb, ne-eqb}
-use Rattle.int_entry.specs.Calls.{handleOf}
+use Rattle.int_map_entry.specs.Calls.{handleOf}
 use Rattle.numbers.specs.Handed.{handleAs}
 use Rattle.numbers.proofs.int_entries.entered.Statement.{statement}
 use Rattle.numbers.proofs.int_entries.entered.Tie as tie

@@ -1,5 +1,5 @@
 -- `standing_numbers` meets its contract: each arm hands over what the definition says.
-use Rattle.int_vacant.specs.Numbers.{standingNumbers}
+use Rattle.int_map_vacant.specs.Numbers.{standingNumbers}
 use borrow.Author.Needs.{needs}
 use Rattle.numbers.proofs.int_entries.standing_numbers.Statement.{statement}
 use Rattle.numbers.proofs.int_entries.standing_numbers.Tie as tie

@@ -1,5 +1,5 @@
 -- `swapped_numbers` meets its contract: each arm hands over what the definition says.
-use Rattle.int_handles.specs.Numbers.{swappedNumbers}
+use Rattle.int_map_occupied.specs.Numbers.{swappedNumbers}
 use borrow.Author.Needs.{needs}
 use Rattle.numbers.proofs.int_entries.swapped_numbers.Statement.{statement}
 use Rattle.numbers.proofs.int_entries.swapped_numbers.Tie as tie

@@ -1,5 +1,5 @@
 -- `taken_entry_numbers` meets its contract: each arm hands over what the definition says.
-use Rattle.int_handles.specs.Numbers.{takenEntryNumbers}
+use Rattle.int_map_occupied.specs.Numbers.{takenEntryNumbers}
 use borrow.Author.Needs.{needs}
 use Rattle.numbers.proofs.int_entries.taken_entry_numbers.Statement.{statement}
 use Rattle.numbers.proofs.int_entries.taken_entry_numbers.Tie as tie

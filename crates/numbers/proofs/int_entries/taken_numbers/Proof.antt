@@ -1,5 +1,5 @@
 -- `taken_numbers` meets its contract: each arm hands over what the definition says.
-use Rattle.int_handles.specs.Numbers.{takenNumbers}
+use Rattle.int_map_occupied.specs.Numbers.{takenNumbers}
 use borrow.Author.Needs.{needs}
 use Rattle.numbers.proofs.int_entries.taken_numbers.Statement.{statement}
 use Rattle.numbers.proofs.int_entries.taken_numbers.Tie as tie

@@ -1,0 +1,13 @@
+-- The contract settles its answer and the lent arrays: two results that it allows are equal.
+use Rattle.answers.specs.Numbers.{outcomeNumbers}
+use Rattle.answers.proofs.Equal.{outcomeNumbers-injective}
+use Rattle.kinds.specs.Columns.{values}
+use Rattle.kinds.specs.Told.{SettledWith}
+use Rattle.kinds.specs.Calls.{copyOf}
+use Rattle.kinds.proofs.Settled.{settled-with}
+use Rattle.byte_slots.specs.Memory.{Strings}
+use Rattle.byte_slots.specs.Kinds.{maps}
+
+-- `copy`.
+pub copy-settled : (to from : Strings values) → SettledWith outcomeNumbers (copyOf maps to from)
+copy-settled to from = settled-with outcomeNumbers-injective

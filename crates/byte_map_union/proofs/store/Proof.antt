@@ -1,0 +1,46 @@
+-- `byte_map_union::store` meets its contract: the key's slot, or the first free one, by how the probing ends.
+use native.Mathlib.Omega.{arith}
+use borrow.Author.Needs.{needs}
+use Rattle.byte_map_union.proofs.Storing.{hit-inside, store-hit, free-fillable, free-inside, store-free, store-full, store-refused}
+use Rattle.byte_map_union.proofs.store.Statement.{statement}
+use Rattle.byte_map_union.proofs.store.Tie as tie
+
+mul-values : tie.Need-mul-values
+mul-values c = let (a, b) = hit-inside _ _ _ (c .before .before .before .before .before .before .before .before .before .before .before .before .before .before .pre) (c .before .before .before .probe .ensures) (c .before .seen .given .1) in search needs
+
+slice-write-values : tie.Need-slice-write-values
+slice-write-values c = let (a, b) = hit-inside _ _ _ (c .before .before .before .before .before .before .before .before .before .before .before .before .before .before .pre) (c .before .before .before .probe .ensures) (c .before .seen .given .1) in omega arith
+
+returns : tie.Need-returns
+returns c = store-hit _ _ _ (c .before .before .before .before .before .before .before .before .before .before .before .before .before .before .pre) (c .before .before .before .probe .ensures) (c .before .seen .given .1)
+
+fill-requires : tie.Need-fill-requires
+fill-requires c κs = free-fillable _ _ _ (c .before .before .before .before .before .before .before .before .before .before .before .before .before .before .before .before .before .before .pre) (c .before .before .before .before .before .before .before .probe .ensures) (c .before .before .before .before .before .seen2 .given .1)
+
+mul-values-2 : tie.Need-mul-values-2
+mul-values-2 c = let (a, b, d) = free-inside _ _ _ (c .before .before .before .before .before .before .before .before .before .before .before .before .before .before .before .before .before .before .before .before .before .before .before .before .before .before .before .pre) (c .before .before .before .before .before .before .before .before .before .before .before .before .before .before .before .before .probe .ensures) (c .before .before .before .before .before .before .before .before .before .before .before .before .before .before .seen2 .given .1) in search needs
+
+slice-write-values-2 : tie.Need-slice-write-values-2
+slice-write-values-2 c = free-inside _ _ _ (c .before .before .before .before .before .before .before .before .before .before .before .before .before .before .before .before .before .before .before .before .before .before .before .before .before .before .before .pre) (c .before .before .before .before .before .before .before .before .before .before .before .before .before .before .before .before .probe .ensures) (c .before .before .before .before .before .before .before .before .before .before .before .before .before .before .seen2 .given .1) .0
+
+add-result : tie.Need-add-result
+add-result c = let (a, b, d) = free-inside _ _ _ (c .before .before .before .before .before .before .before .before .before .before .before .before .before .before .before .before .before .before .before .before .before .before .before .before .before .before .before .pre) (c .before .before .before .before .before .before .before .before .before .before .before .before .before .before .before .before .probe .ensures) (c .before .before .before .before .before .before .before .before .before .before .before .before .before .before .seen2 .given .1) in search needs
+
+returns-2 : tie.Need-returns-2
+returns-2 c = store-free _ _ _ (c .before .before .before .before .before .before .before .before .before .before .before .before .before .before .before .before .before .before .before .before .before .before .before .before .before .before .before .pre) (c .before .before .before .before .before .before .before .before .before .before .before .before .before .before .before .before .probe .ensures) (c .before .before .before .before .before .before .before .before .before .before .before .before .before .before .seen2 .given .1) (c .before .before .before .before .before .before .before .before .fill .ensures)
+
+returns-3 : tie.Need-returns-3
+returns-3 c = store-full _ _ _ (c .before .before .before .before .before .before .before .before .before .before .before .before .before .pre) (c .before .before .probe .ensures) (c .enum-told .given .1)
+
+returns-4 : tie.Need-returns-4
+returns-4 c = store-refused _ _ _ (c .before .before .before .before .before .before .before .before .before .before .before .before .before .pre) (c .before .before .probe .ensures) (c .enum-told2 .given .1)
+
+pub store-spec : {M : Type 1} → statement M
+store-spec =
+    tie.close
+    (tie.spec
+    (λ c κs. search needs) (λ c. search needs) mul-values slice-write-values (λ c. search needs) (λ c. search needs) (λ c. search needs)
+    (λ c. search needs) (λ c. search needs) returns (λ c. search needs) fill-requires mul-values-2 slice-write-values-2 add-result
+    (λ c. search needs) (λ c. search needs) (λ c. search needs) (λ c. search needs) (λ c. search needs) returns-2 (λ c. search needs)
+    (λ c. search needs) (λ c. search needs) (λ c. search needs) (λ c. search needs) returns-3 (λ c. search needs) (λ c. search needs)
+    (λ c. search needs) (λ c. search needs) (λ c. search needs) returns-4)

@@ -1,0 +1,396 @@
+// The union of byte maps: every test over both tables first, then the right's pairs go into the left.
+ghost use mathlib.Core.Path.{_≡_};
+ghost use mathlib.Core.Bool.{true};
+ghost use Prim.Native.Nat.{_≤_, _<_};
+ghost use lib.ListN.{length};
+ghost use Rattle.model.specs.Calls.{rule};
+ghost use Rattle.answers.specs.Numbers.{outcomeNumbers};
+ghost use Rattle.kinds.specs.Calls.{unionOf};
+ghost use Rattle.kinds.specs.Told.{told};
+ghost use Rattle.byte_slots.specs.Memory.{spansNow, spansBefore, spansAfter, fitting, usedOf};
+ghost use Rattle.byte_slots.specs.Kinds.{maps};
+ghost use Rattle.byte_slots.specs.Maps.{mapNow, before, after};
+ghost use Rattle.byte_map_union.specs.Needs.{neededBy, lackAt, lacksOf, livesOf, planned, roomOf, planOf};
+ghost use Rattle.byte_map_union.specs.Stores.{Ready, Storable, pairAt, pairsOf, slotStored, allStored};
+use answers::Outcome;
+use answers::Refusal;
+use byte_arena::fill;
+use byte_map_reads::map_fits;
+use kinds::Probed;
+use kinds::count_mark;
+use byte_slots::Surveyed;
+use byte_slots::len_at;
+use byte_slots::mark_at;
+use byte_slots::offset_at;
+use byte_slots::probe;
+use byte_slots::survey;
+
+// What the left has to have room for: so many slots, and so many bytes.
+pub struct Needed {
+    pub slots: usize,
+    pub bytes: usize,
+}
+
+// The union's plan: to store, with the left's `used`, or a refusal.
+pub enum Planned {
+    Go(usize),
+    Refused(Refusal),
+}
+
+// What a key of this length needs, by how its path in the left ended.
+fn needed_by(found: Probed, len: usize) -> Needed
+    ensures { λ r. ⌜ r ≡ neededBy found len ⌝ }
+{
+    match found {
+        Probed::Hit(_, _) => Needed { slots: 0, bytes: 0 },
+        Probed::Free(_, _) => Needed {
+            slots: 1,
+            bytes: len,
+        },
+        Probed::Full(_) => Needed {
+            slots: 1,
+            bytes: len,
+        },
+        Probed::Refused(_) => Needed {
+            slots: 1,
+            bytes: len,
+        },
+    }
+}
+
+// What slot i of the right needs: a slot and its key's bytes, where it is live and its key is absent in the left.
+fn lack(
+    marks: &[u8],
+    offsets: &[u16],
+    lengths: &[u8],
+    arena: &[u8],
+    right_marks: &[u8],
+    right_offsets: &[u16],
+    right_lengths: &[u8],
+    right_arena: &[u8],
+    i: usize,
+) -> Needed
+    requires { ⌜ (fitting (spansNow marks offsets lengths arena) ≡ true) × (fitting (spansNow «right_marks» «right_offsets» «right_lengths» «right_arena») ≡ true) × (i < length (now «right_marks»)) ⌝ }
+    ensures { λ r. ⌜ (r ≡ lackAt (spansBefore marks offsets lengths arena) (spansBefore «right_marks» «right_offsets» «right_lengths» «right_arena») i) × (r .slots ≤ 1) × (r .bytes ≤ 255) ⌝ }
+{
+    if mark_at(right_marks, right_offsets, right_lengths, right_arena, i) == 1 {
+        let start = offset_at(right_offsets, i) as usize;
+        let len = len_at(right_lengths, i) as usize;
+        let end = start + len;
+        let seen = probe(marks, offsets, lengths, arena, &right_arena[start..end]);
+        return needed_by(seen, len);
+    }
+    Needed { slots: 0, bytes: 0 }
+}
+
+// What the right needs of the left, over all its slots.
+fn lacks(
+    marks: &[u8],
+    offsets: &[u16],
+    lengths: &[u8],
+    arena: &[u8],
+    right_marks: &[u8],
+    right_offsets: &[u16],
+    right_lengths: &[u8],
+    right_arena: &[u8],
+) -> Needed
+    requires { ⌜ (fitting (spansNow marks offsets lengths arena) ≡ true) × (fitting (spansNow «right_marks» «right_offsets» «right_lengths» «right_arena») ≡ true) ⌝ }
+    ensures { λ r. ⌜ r ≡ lacksOf (spansBefore marks offsets lengths arena) (spansBefore «right_marks» «right_offsets» «right_lengths» «right_arena») (length (now («right_marks» .entry))) ⌝ }
+{
+    let mut slots = 0;
+    let mut bytes = 0;
+    let mut i = 0;
+    while i < right_marks.len() {
+        let more = lack(
+            marks,
+            offsets,
+            lengths,
+            arena,
+            right_marks,
+            right_offsets,
+            right_lengths,
+            right_arena,
+            i,
+        );
+        slots += more.slots;
+        bytes += more.bytes;
+        i += 1;
+    }
+    Needed { slots, bytes }
+}
+
+// How many marks are 1: the live slots, where none is damaged.
+fn lives(marks: &[u8]) -> usize
+    ensures { λ r. ⌜ r ≡ livesOf (now (marks .entry)) (length (now (marks .entry))) ⌝ }
+{
+    let mut live = 0;
+    let mut i = 0;
+    while i < marks.len() {
+        live += count_mark(marks[i]);
+        i += 1;
+    }
+    live
+}
+
+// The union's tests of two tables of right sizes: damage in either, then slots, then bytes.
+fn room(
+    marks: &[u8],
+    offsets: &[u16],
+    lengths: &[u8],
+    arena: &[u8],
+    right_marks: &[u8],
+    right_offsets: &[u16],
+    right_lengths: &[u8],
+    right_arena: &[u8],
+) -> Planned
+    requires { ⌜ (fitting (spansNow marks offsets lengths arena) ≡ true) × (fitting (spansNow «right_marks» «right_offsets» «right_lengths» «right_arena») ≡ true) ⌝ }
+    ensures { λ r. ⌜ planned r ≡ roomOf (spansBefore marks offsets lengths arena) (spansBefore «right_marks» «right_offsets» «right_lengths» «right_arena») ⌝ }
+{
+    let found = survey(marks, offsets, lengths, arena);
+    let Surveyed::Used(used) = found else {
+        return Planned::Refused(Refusal::Damaged);
+    };
+    let other = survey(right_marks, right_offsets, right_lengths, right_arena);
+    let Surveyed::Used(_) = other else {
+        return Planned::Refused(Refusal::Damaged);
+    };
+    let needed = lacks(
+        marks,
+        offsets,
+        lengths,
+        arena,
+        right_marks,
+        right_offsets,
+        right_lengths,
+        right_arena,
+    );
+    if needed.slots <= marks.len() - lives(marks) {
+        if needed.bytes <= arena.len() - used {
+            return Planned::Go(used);
+        }
+        return Planned::Refused(Refusal::NoBytes);
+    }
+    Planned::Refused(Refusal::NoSlot)
+}
+
+// The union's tests.
+fn plan(
+    marks: &[u8],
+    offsets: &[u16],
+    lengths: &[u8],
+    values: &[u64],
+    arena: &[u8],
+    right_marks: &[u8],
+    right_offsets: &[u16],
+    right_lengths: &[u8],
+    right_values: &[u64],
+    right_arena: &[u8],
+) -> Planned
+    ensures { λ r. ⌜ planned r ≡ planOf (before marks offsets lengths values arena) (before «right_marks» «right_offsets» «right_lengths» «right_values» «right_arena») ⌝ }
+{
+    if map_fits(marks, offsets, lengths, values, arena) {
+        if map_fits(
+            right_marks,
+            right_offsets,
+            right_lengths,
+            right_values,
+            right_arena,
+        ) {
+            return room(
+                marks,
+                offsets,
+                lengths,
+                arena,
+                right_marks,
+                right_offsets,
+                right_lengths,
+                right_arena,
+            );
+        }
+        return Planned::Refused(Refusal::Sizes);
+    }
+    Planned::Refused(Refusal::Sizes)
+}
+
+// The insert rule with no test: the key's value changes in its slot, or the first free slot of its path takes the key. The bytes used then.
+fn store(
+    marks: &mut [u8],
+    offsets: &mut [u16],
+    lengths: &mut [u8],
+    values: &mut [u64],
+    arena: &mut [u8],
+    key: &[u8],
+    value: u64,
+    used: usize,
+) -> usize
+    requires { ⌜ Storable (mapNow marks offsets lengths values arena) used (now key) value ⌝ }
+    ensures { λ r. ⌜ (after marks offsets lengths values arena ≡ rule maps (before marks offsets lengths values arena) (now (key .entry)) value) × (r ≡ usedOf (spansAfter marks offsets lengths arena)) ⌝ }
+{
+    let seen = probe(marks, offsets, lengths, arena, key);
+    match seen {
+        Probed::Hit(slot, _) => {
+            values[slot] = value;
+            return used;
+        }
+        Probed::Free(slot, _) => {
+            fill(marks, offsets, lengths, arena, slot, used, key);
+            values[slot] = value;
+            return used + key.len();
+        }
+        Probed::Full(_) => return used,
+        Probed::Refused(_) => return used,
+    }
+}
+
+// The insert rule for slot i of the right, where it is live. The bytes used then.
+fn store_slot(
+    marks: &mut [u8],
+    offsets: &mut [u16],
+    lengths: &mut [u8],
+    values: &mut [u64],
+    arena: &mut [u8],
+    right_marks: &[u8],
+    right_offsets: &[u16],
+    right_lengths: &[u8],
+    right_values: &[u64],
+    right_arena: &[u8],
+    i: usize,
+    used: usize,
+) -> usize
+    requires { ⌜ Ready (mapNow marks offsets lengths values arena) used (pairAt (mapNow «right_marks» «right_offsets» «right_lengths» «right_values» «right_arena») i) × (i < length (now «right_values»)) × (i < length (now «right_marks»)) × (length (now «right_offsets») ≡ length (now «right_marks»)) × (length (now «right_lengths») ≡ length (now «right_marks»)) ⌝ }
+    ensures { λ r. ⌜ (after marks offsets lengths values arena ≡ slotStored (before marks offsets lengths values arena) (before «right_marks» «right_offsets» «right_lengths» «right_values» «right_arena») i) × (r ≡ usedOf (spansAfter marks offsets lengths arena)) ⌝ }
+{
+    if mark_at(right_marks, right_offsets, right_lengths, right_arena, i) == 1 {
+        let start = offset_at(right_offsets, i) as usize;
+        let len = len_at(right_lengths, i) as usize;
+        let end = start + len;
+        return store(
+            marks,
+            offsets,
+            lengths,
+            values,
+            arena,
+            &right_arena[start..end],
+            right_values[i],
+            used,
+        );
+    }
+    used
+}
+
+// The right's pairs go into the left by the insert rule, in the right's slot order.
+fn store_all(
+    marks: &mut [u8],
+    offsets: &mut [u16],
+    lengths: &mut [u8],
+    values: &mut [u64],
+    arena: &mut [u8],
+    right_marks: &[u8],
+    right_offsets: &[u16],
+    right_lengths: &[u8],
+    right_values: &[u64],
+    right_arena: &[u8],
+    used: usize,
+)
+    requires { ⌜ Ready (mapNow marks offsets lengths values arena) used (pairsOf (mapNow «right_marks» «right_offsets» «right_lengths» «right_values» «right_arena») (length (now «right_marks»))) × (length (now «right_values») ≡ length (now «right_marks»)) × (length (now «right_marks») ≤ 4096) × (length (now «right_offsets») ≡ length (now «right_marks»)) × (length (now «right_lengths») ≡ length (now «right_marks»)) ⌝ }
+    ensures { λ r. ⌜ after marks offsets lengths values arena ≡ allStored (before marks offsets lengths values arena) (before «right_marks» «right_offsets» «right_lengths» «right_values» «right_arena») (length (now («right_marks» .entry))) ⌝ }
+{
+    let mut end = used;
+    let mut i = 0;
+    while i < right_marks.len() {
+        end = store_slot(
+            marks,
+            offsets,
+            lengths,
+            values,
+            arena,
+            right_marks,
+            right_offsets,
+            right_lengths,
+            right_values,
+            right_arena,
+            i,
+            end,
+        );
+        i += 1;
+    }
+}
+
+// Does what the plan says: all of the right's pairs go into the left, or none.
+fn carry_out(
+    way: Planned,
+    marks: &mut [u8],
+    offsets: &mut [u16],
+    lengths: &mut [u8],
+    values: &mut [u64],
+    arena: &mut [u8],
+    right_marks: &[u8],
+    right_offsets: &[u16],
+    right_lengths: &[u8],
+    right_values: &[u64],
+    right_arena: &[u8],
+) -> Outcome
+    requires { ⌜ planned way ≡ planOf (mapNow marks offsets lengths values arena) (mapNow «right_marks» «right_offsets» «right_lengths» «right_values» «right_arena») ⌝ }
+    ensures { λ r. ⌜ told (outcomeNumbers r) (after marks offsets lengths values arena) ≡ unionOf maps (before marks offsets lengths values arena) (before «right_marks» «right_offsets» «right_lengths» «right_values» «right_arena») ⌝ }
+{
+    match way {
+        Planned::Go(used) => {
+            store_all(
+                marks,
+                offsets,
+                lengths,
+                values,
+                arena,
+                right_marks,
+                right_offsets,
+                right_lengths,
+                right_values,
+                right_arena,
+                used,
+            );
+            Outcome::Done
+        }
+        Planned::Refused(r) => Outcome::Refused(r),
+    }
+}
+
+// Puts the right's pairs into the left, where its slots and bytes suffice for all; the right stays as it was.
+pub fn union_prefer_right(
+    marks: &mut [u8],
+    offsets: &mut [u16],
+    lengths: &mut [u8],
+    values: &mut [u64],
+    arena: &mut [u8],
+    right_marks: &[u8],
+    right_offsets: &[u16],
+    right_lengths: &[u8],
+    right_values: &[u64],
+    right_arena: &[u8],
+) -> Outcome
+    ensures { λ r. ⌜ told (outcomeNumbers r) (after marks offsets lengths values arena) ≡ unionOf maps (before marks offsets lengths values arena) (before «right_marks» «right_offsets» «right_lengths» «right_values» «right_arena») ⌝ }
+{
+    carry_out(
+        plan(
+            marks,
+            offsets,
+            lengths,
+            values,
+            arena,
+            right_marks,
+            right_offsets,
+            right_lengths,
+            right_values,
+            right_arena,
+        ),
+        marks,
+        offsets,
+        lengths,
+        values,
+        arena,
+        right_marks,
+        right_offsets,
+        right_lengths,
+        right_values,
+        right_arena,
+    )
+}

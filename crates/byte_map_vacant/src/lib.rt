@@ -1,0 +1,77 @@
+// The byte map's vacant handles: small values that their own call takes; the key is given again, and the slot's occupied handle is handed back.
+ghost use mathlib.Core.Path.{_≡_};
+ghost use Rattle.kinds.specs.Calls.{standingOf};
+ghost use Rattle.kinds.specs.Told.{told};
+ghost use Rattle.byte_slots.specs.Kinds.{maps};
+ghost use Rattle.byte_slots.specs.Maps.{before, after};
+ghost use Rattle.byte_map_vacant.specs.Numbers.{standingNumbers};
+ghost use Rattle.byte_map_vacant.specs.Planning.{freshBy};
+use answers::Refusal;
+use byte_map_occupied::Occupied;
+use byte_slots::Placed;
+
+// A handle of the slot that a key would take.
+pub struct Vacant {
+    pub slot: usize,
+}
+
+// The answer of the calls that leave the key in a slot: its handle, and the value now in the slot.
+pub enum Standing {
+    Now(Occupied, u64),
+    Refused(Refusal),
+}
+
+// The plan of a vacant handle's insert: `used`, or a refusal.
+pub enum Fresh {
+    Used(usize),
+    Refused(Refusal),
+}
+
+// What a vacant handle of this slot makes of insert's plan: it is good where insert would use that very slot.
+fn fresh_by(plan: Placed, slot: usize) -> Fresh
+    ensures { λ r. ⌜ r ≡ freshBy slot plan ⌝ }
+{
+    match plan {
+        Placed::Free(free, _, used) => {
+            if slot == free {
+                return Fresh::Used(used);
+            }
+            return Fresh::Refused(Refusal::BadHandle);
+        }
+        Placed::Hit(_, _) => return Fresh::Refused(Refusal::BadHandle),
+        Placed::Refused(r) => {
+            if 6 < answers::number(r) {
+                return Fresh::Refused(Refusal::BadHandle);
+            }
+            return Fresh::Refused(r);
+        }
+    }
+}
+
+impl Vacant {
+    // Puts the key and a value into the slot, where insert would use that very slot.
+    pub fn insert(
+        self,
+        marks: &mut [u8],
+        offsets: &mut [u16],
+        lengths: &mut [u8],
+        values: &mut [u64],
+        arena: &mut [u8],
+        key: &[u8],
+        value: u64,
+    ) -> Standing
+        ensures { λ r. ⌜ told (standingNumbers r) (after marks offsets lengths values arena) ≡ standingOf maps (before marks offsets lengths values arena) (self .slot) (now (key .entry)) value ⌝ }
+    {
+        let slot = self.slot;
+        let plan = byte_map::place(marks, offsets, lengths, values, arena, key);
+        let worth = fresh_by(plan, slot);
+        match worth {
+            Fresh::Used(used) => {
+                values[slot] = value;
+                byte_arena::fill(marks, offsets, lengths, arena, slot, used, key);
+                Standing::Now(Occupied { slot }, value)
+            }
+            Fresh::Refused(r) => Standing::Refused(r),
+        }
+    }
+}

@@ -1,0 +1,184 @@
+-- What the answers over the spans say of the calls' definitions, for any column: the laws that byte maps and byte sets cite.
+use Prim.Native.Nat.{ℕ, zero, suc, _+_, _≤_, _<_}
+use mathlib.Core.Bool.{Bool, true, false}
+use mathlib.Core.List.{List}
+use mathlib.Core.Path.{_≡_, refl, sym, _∙_}
+use borrow.Author.Tests.{eqb-true}
+use lib.Dec.{eqb}
+use lib.ListN.{length}
+use Rattle.model.specs.Slots.{weigh, total}
+use Rattle.model.specs.Store.{path, live-count, used, hurtful}
+use Rattle.model.specs.Calls.{Or, no, ok, need, pass, Seen, found, absent, Spot, occupied, vacant, seenBy, spotBy, get, entry, remove}
+use Rattle.model.specs.Walk.{paceTo}
+use Rattle.model.proofs.Cases.{by-bool, clash}
+use Rattle.digest.specs.Home.{homeOf, keyFits}
+use Rattle.digest.proofs.Bounds.{home-below}
+use Rattle.answers.specs.Refusals.{numberOf}
+use Rattle.kinds.specs.declared.Probed.{Probed}
+use Rattle.kinds.specs.declared.Probed.the-variants as probed
+use Rattle.kinds.specs.declared.Scanned.{Scanned}
+use Rattle.kinds.specs.declared.Scanned.the-variants as scanned
+use Rattle.kinds.specs.declared.Next.{Next}
+use Rattle.kinds.specs.declared.Next.the-variants as next
+use Rattle.kinds.specs.Columns.{Column}
+use Rattle.kinds.specs.Marks.{cell, cellsOf}
+use Rattle.kinds.specs.Probing.{along}
+use Rattle.kinds.proofs.Bridge as kinds
+use Rattle.kinds.proofs.Bridge.{seenOf, spotIn, pacedOf, path-cells, seen-path, spot-path}
+use Rattle.byte_slots.specs.declared.Placed.{Placed}
+use Rattle.byte_slots.specs.declared.Placed.the-variants as placed
+use Rattle.byte_slots.specs.declared.Located.{Located}
+use Rattle.byte_slots.specs.declared.Located.the-variants as located
+use Rattle.byte_slots.specs.Memory.{Spans, Strings, strings, keyAt, slotsOf, bare, usedOf, harmful, fitting, askedOf, keptOf}
+use Rattle.byte_slots.specs.Marks.{markAt}
+use Rattle.byte_slots.specs.Planning.{placedBy, roomFor, placing, locatedBy, locating}
+use Rattle.byte_slots.specs.Probing.{pathFrom, pathOf, probing}
+use Rattle.byte_slots.specs.Scanning.{scanning, nexting}
+use Rattle.byte_slots.proofs.Marks.{slot-cell, slots-cells}
+use Rattle.byte_slots.proofs.Sizes.{Sized, fitting-says}
+
+-- What entry and insert answer by their plan; `read` gives the value at a slot.
+abbrev pub spotOf : {W : Type 0} → (ℕ → W) → Placed → Or (Spot W)
+spotOf read (placed.Hit i e) = ok (occupied i (read i) e)
+spotOf read (placed.Free i e u) = ok (vacant i e)
+spotOf read (placed.Refused x) = no (numberOf x)
+
+-- What remove answers by its plan.
+abbrev pub lostOf : {W : Type 0} → (ℕ → W) → Located → Or (Seen W)
+lostOf read (located.Hit i e u) = ok (found (read i) i e)
+lostOf read (located.Absent e) = ok (absent e)
+lostOf read (located.Refused x) = no (numberOf x)
+
+-- a key that may not be asked for is refused 2, and so one that may not be stored
+pub asked-no : (k : List ℕ) → eqb (askedOf k) 0 ≡ false → askedOf k ≡ 2
+unfolding askedOf
+asked-no k e = by-bool (keyFits (length k))
+    (λ f. clash (cc (rw f at e)))
+    (λ f. rw f)
+
+pub kept-no : (k : List ℕ) → eqb (keptOf k) 0 ≡ false → keptOf k ≡ 2
+unfolding keptOf
+kept-no k e = asked-no k e
+
+-- what a slot weighs is the same whatever its value
+weigh-cell : {W : Type 0} (m : ℕ) (k : List ℕ) (v : W) → weigh length (cell m k v) ≡ weigh length (cell m k (tt {0}))
+unfolding weigh cell
+weigh-cell zero k v = refl
+weigh-cell (suc zero) k v = refl
+weigh-cell (suc (suc zero)) k v = refl
+weigh-cell (suc (suc (suc m))) k v = refl
+
+total-bare : {W : Type 0} (s : Spans) (read : ℕ → W) (n : ℕ) → total length (slotsOf s read) n ≡ total length (bare s) n
+unfolding total
+total-bare s read zero = refl
+total-bare s read (suc n) = rw (total-bare s read n, slot-cell s read n, slot-cell s (λ i. tt {0}) n, weigh-cell (markAt s n) (keyAt s n) (read n))
+
+-- both plans, by the path
+spot-placed : {W : Type 0} (read : ℕ → W) (u : ℕ) (room : Bool) (p : Probed) → spotIn room read p ≡ spotOf read (placedBy u room p)
+unfolding placedBy
+spot-placed read u room (probed.Hit i e) = refl
+spot-placed read u true (probed.Free i e) = refl
+spot-placed read u false (probed.Free i e) = refl
+spot-placed read u room (probed.Full e) = refl
+spot-placed read u room (probed.Refused x) = refl
+
+seen-located : {W : Type 0} (read : ℕ → W) (u : ℕ) (p : Probed) → seenOf read p ≡ lostOf read (locatedBy u p)
+unfolding locatedBy
+seen-located read u (probed.Hit i e) = refl
+seen-located read u (probed.Free i e) = refl
+seen-located read u (probed.Full e) = refl
+seen-located read u (probed.Refused x) = refl
+
+module _ {W : Type 0} (C : Column W) (m : Strings C) where
+  stand : strings C .slots m ≡ cellsOf (markAt (m .spans)) (keyAt (m .spans)) (C .read (m .words))
+  stand = slots-cells (m .spans) (C .read (m .words))
+
+  -- a column of another length: wrong sizes
+  pub sized-short : C .long (m .words) (length (m .spans .marks)) ≡ false → strings C .sized m ≡ false
+  sized-short e = rw e (by-bool (fitting (m .spans)) (λ f. rw f) (λ f. rw f))
+
+  -- and so any call that tests its sizes is refused 1
+  pub short-refused : {A : Type 0} (a : Or A) → C .long (m .words) (length (m .spans .marks)) ≡ false → need (strings C .sized m) 1 a ≡ no 1
+  unfolding need
+  short-refused a e = rw (sized-short e)
+
+  -- `used`, whatever the values
+  pub used-is : used (strings C) m ≡ usedOf (m .spans)
+  unfolding used usedOf
+  used-is = total-bare (m .spans) (C .read (m .words)) (length (m .spans .marks))
+
+  module _ (k : List ℕ) where
+    -- the path over the spans is the path, in slots
+    pub path-is : along (length (m .spans .marks)) (homeOf 0 (length (m .spans .marks)) k) (path (strings C) m k) ≡ pathOf (m .spans) k
+    unfolding pathOf pathFrom
+    path-is = path-cells (strings C) m (markAt (m .spans)) (keyAt (m .spans)) (C .read (m .words)) stand k
+
+    pub seen-is : seenBy (strings C) m k (path (strings C) m k) ≡ seenOf (C .read (m .words)) (pathOf (m .spans) k)
+    seen-is = rw (← path-is) (seen-path (strings C) m (markAt (m .spans)) (keyAt (m .spans)) (C .read (m .words)) stand k)
+
+    pub spot-is : spotBy (strings C) m k (path (strings C) m k) ≡ spotIn (roomFor (m .spans) k) (C .read (m .words)) (pathOf (m .spans) k)
+    unfolding roomFor
+    spot-is = rw (← path-is, ← used-is) (spot-path (strings C) m (markAt (m .spans)) (keyAt (m .spans)) (C .read (m .words)) stand k)
+
+    -- a slot that the path found is one of the table's
+    pub path-inside : fitting (m .spans) ≡ true → {i e : ℕ} → pathOf (m .spans) k ≡ probed.Hit i e → i < length (m .spans .marks)
+    path-inside f q = kinds.hit-below (strings C) m k (home-below 0 (length (m .spans .marks)) k (fitting-says (m .spans) f .some)) (path-is ∙ q)
+
+    -- and so is one that the probing found, in lists that agree
+    pub probing-inside : {r : Probed} {i e : ℕ} → r ≡ probing (m .spans) k → r ≡ probed.Hit i e → (i < length (m .spans .marks)) × Sized (m .spans)
+    unfolding probing
+    probing-inside p q = by-bool (fitting (m .spans))
+        (λ f. by-bool (eqb (askedOf k) 0)
+        (λ a. (path-inside f (rw (f, a) at (sym p ∙ q)), fitting-says (m .spans) f))
+        (λ a. clash (cc (rw (f, a) at (sym p ∙ q)))))
+        (λ f. clash (cc (rw f at (sym p ∙ q))))
+
+    -- the whole calls, where the column is as long as the marks
+    module _ (long : C .long (m .words) (length (m .spans .marks)) ≡ true) where
+      pub get-probing : get (strings C) m k ≡ seenOf (C .read (m .words)) (probing (m .spans) k)
+      unfolding get need pass probing
+      get-probing = rw long (by-bool (fitting (m .spans))
+          (λ f. rw f (by-bool (eqb (askedOf k) 0)
+          (λ a. rw (a, eqb-true (askedOf k) 0 a) seen-is)
+          (λ a. rw (a, asked-no k a))))
+          (λ f. rw f))
+
+      pub remove-locating : remove (strings C) m k ≡ lostOf (C .read (m .words)) (locating (m .spans) k)
+      unfolding remove need pass locating
+      remove-locating = rw long (by-bool (fitting (m .spans))
+          (λ f. rw f (by-bool (eqb (askedOf k) 0)
+          (λ a. rw (a, eqb-true (askedOf k) 0 a) (by-bool (harmful (m .spans))
+          (λ h. rw h)
+          (λ h. rw h (seen-is ∙ seen-located (C .read (m .words)) (usedOf (m .spans)) (pathOf (m .spans) k)))))
+          (λ a. rw (a, asked-no k a))))
+          (λ f. rw f))
+
+      pub entry-placing : entry (strings C) m k ≡ spotOf (C .read (m .words)) (placing (m .spans) k)
+      unfolding entry need pass placing
+      entry-placing = rw long (by-bool (fitting (m .spans))
+          (λ f. rw f (by-bool (eqb (keptOf k) 0)
+          (λ a. rw (a, eqb-true (keptOf k) 0 a) (by-bool (harmful (m .spans))
+          (λ h. rw h)
+          (λ h. rw h (spot-is ∙ spot-placed (C .read (m .words)) (usedOf (m .spans)) (roomFor (m .spans) k) (pathOf (m .spans) k)))))
+          (λ a. rw (a, kept-no k a))))
+          (λ f. rw f))
+
+  -- the scan tells the table's own damage and length
+  module _ {r : Scanned} (p : r ≡ scanning (m .spans)) where
+    pub scan-bad : r ≡ scanned.Bad → hurtful (strings C) m ≡ true
+    unfolding scanning
+    scan-bad q = kinds.scan-bad (strings C) m (markAt (m .spans)) (keyAt (m .spans)) (C .read (m .words)) stand p q
+
+    pub scan-live : {n : ℕ} → r ≡ scanned.Live n → (hurtful (strings C) m ≡ false) × (live-count (strings C) m ≡ n) × (n ≤ length (m .spans .marks))
+    unfolding scanning
+    scan-live q = kinds.scan-live (strings C) m (markAt (m .spans)) (keyAt (m .spans)) (C .read (m .words)) stand p q
+
+  -- a step's slots, by what the look ahead answered
+  pub paced-by : (w g : ℕ) {r x : Next} → r ≡ nexting (m .spans) w (w + g) → r ≡ x → paceTo (strings C .slots m) w g ≡ pacedOf (keyAt (m .spans)) (C .read (m .words)) w g x
+  unfolding nexting
+  paced-by w g p q = rw stand (kinds.paced-by (markAt (m .spans)) (keyAt (m .spans)) (C .read (m .words)) w g p q)
+
+-- a live slot that the stretch from w to e gives is in it
+pub next-inside : (s : Spans) (w e : ℕ) {r : Next} {j : ℕ} → r ≡ nexting s w e → r ≡ next.Live j → (w ≤ j) × (j < e)
+unfolding nexting
+next-inside s w e p q = kinds.next-inside (markAt s) w e p q

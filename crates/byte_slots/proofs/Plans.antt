@@ -1,0 +1,86 @@
+-- What the survey and the plans of insert and remove say, test by test.
+use Prim.Native.Nat.{ℕ, _-_, _≤_}
+use mathlib.Core.Bool.{Bool, true, false}
+use mathlib.Core.List.{List}
+use mathlib.Core.Path.{_≡_, sym, _∙_}
+use native.Mathlib.Omega.{arith}
+use borrow.Author.Tests.{ltb-false}
+use lib.Dec.{ltb, leb, eqb}
+use lib.ListN.{length}
+use Rattle.model.specs.Slots.{damaged}
+use Rattle.model.proofs.Cases.{by-bool, clash}
+use Rattle.answers.specs.declared.Refusal.the-variants as refusal
+use Rattle.digest.specs.Home.{homeOf}
+use Rattle.kinds.specs.declared.Probed.{Probed}
+use Rattle.byte_slots.specs.declared.Surveyed.{Surveyed}
+use Rattle.byte_slots.specs.declared.Surveyed.the-variants as surveyed
+use Rattle.byte_slots.specs.declared.Placed.{Placed}
+use Rattle.byte_slots.specs.declared.Placed.the-variants as placed
+use Rattle.byte_slots.specs.declared.Located.{Located}
+use Rattle.byte_slots.specs.declared.Located.the-variants as located
+use Rattle.byte_slots.specs.Memory.{Spans, bare, usedOf, harmful, fitting, askedOf, keptOf}
+use Rattle.byte_slots.specs.Planning.{placedBy, roomFor, placing, locatedBy, locating}
+use Rattle.byte_slots.specs.Probing.{pathFrom, pathOf}
+use Rattle.byte_slots.specs.Surveying.{surveying}
+
+-- where nothing is damaged, the used bytes are in the arena
+pub used-within : (s : Spans) → harmful s ≡ false → usedOf s ≤ length (s .arena)
+unfolding harmful
+used-within s h = by-bool (damaged (bare s) (length (s .marks)))
+    (λ e. let z : true ≡ false = rw e at h in clash cc)
+    (λ e. by-bool (ltb (length (s .arena)) (usedOf s))
+    (λ f. let z : true ≡ false = rw (e, f) at h in clash cc)
+    (λ f. ltb-false (length (s .arena)) (usedOf s) f))
+
+-- what a survey says
+module _ (s : Spans) {r : Surveyed} (p : r ≡ surveying s) where
+  pub surveyed-bad : r ≡ surveyed.Bad → harmful s ≡ true
+  unfolding surveying
+  surveyed-bad q = by-bool (harmful s) (λ h. h) (λ h. clash (cc (rw h at (sym q ∙ p))))
+
+  pub surveyed-used : {u : ℕ} → r ≡ surveyed.Used u → (harmful s ≡ false) × (u ≡ usedOf s)
+  unfolding surveying
+  surveyed-used {u} q = by-bool (harmful s)
+      (λ h. clash (cc (rw h at (sym q ∙ p))))
+      (λ h. let z : surveyed.Used u ≡ surveyed.Used (usedOf s) = rw h at (sym q ∙ p) in (h, cc))
+
+  pub surveyed-within : {u : ℕ} → r ≡ surveyed.Used u → u ≤ length (s .arena)
+  surveyed-within q = let (h, e) = surveyed-used q in omega (arith, used-within s h)
+
+-- the plans, by the tests in their order
+module _ (s : Spans) (k : List ℕ) {b : Bool} (p : b ≡ fitting s) where
+  pub placing-unfit : b ≡ false → placed.Refused refusal.Sizes ≡ placing s k
+  unfolding placing
+  placing-unfit q = rw (sym p ∙ q)
+
+  pub locating-unfit : b ≡ false → located.Refused refusal.Sizes ≡ locating s k
+  unfolding locating
+  locating-unfit q = rw (sym p ∙ q)
+
+  module _ (q : b ≡ true) {t : Bool} (w : t ≡ eqb (keptOf k) 0) where
+    pub placing-long : t ≡ false → placed.Refused refusal.LongKey ≡ placing s k
+    unfolding placing
+    placing-long e = rw (sym p ∙ q, sym w ∙ e)
+
+    module _ (e : t ≡ true) {r : Surveyed} (v : r ≡ surveying s) where
+      pub placing-bad : r ≡ surveyed.Bad → placed.Refused refusal.Damaged ≡ placing s k
+      unfolding placing
+      placing-bad x = rw (sym p ∙ q, sym w ∙ e, surveyed-bad s v x)
+
+      pub placing-path : {u h : ℕ} {f : Probed} {a : Placed} → r ≡ surveyed.Used u → h ≡ homeOf 0 (length (s .marks)) k → f ≡ pathFrom s h k → a ≡ placedBy u (leb (length k) (length (s .arena) - u)) f → a ≡ placing s k
+      unfolding placing roomFor pathOf
+      placing-path x i y z = let (n, o) = surveyed-used s v x in rw (sym p ∙ q, sym w ∙ e, n, ← i, ← y, ← o) z
+
+  module _ (q : b ≡ true) {t : Bool} (w : t ≡ eqb (askedOf k) 0) where
+    pub locating-long : t ≡ false → located.Refused refusal.LongKey ≡ locating s k
+    unfolding locating
+    locating-long e = rw (sym p ∙ q, sym w ∙ e)
+
+    module _ (e : t ≡ true) {r : Surveyed} (v : r ≡ surveying s) where
+      pub locating-bad : r ≡ surveyed.Bad → located.Refused refusal.Damaged ≡ locating s k
+      unfolding locating
+      locating-bad x = rw (sym p ∙ q, sym w ∙ e, surveyed-bad s v x)
+
+      pub locating-path : {u h : ℕ} {f : Probed} {a : Located} → r ≡ surveyed.Used u → h ≡ homeOf 0 (length (s .marks)) k → f ≡ pathFrom s h k → a ≡ locatedBy u f → a ≡ locating s k
+      unfolding locating pathOf
+      locating-path x i y z = let (n, o) = surveyed-used s v x in rw (sym p ∙ q, sym w ∙ e, n, ← i, ← y, ← o) z

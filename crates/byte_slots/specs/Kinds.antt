@@ -1,0 +1,52 @@
+-- Byte maps and byte sets as stores, and what their own calls tell: those that name an offset or a span.
+use Prim.Native.Nat.{ℕ}
+use mathlib.Core.List.{List}
+use Rattle.model.specs.Store.{Store}
+use Rattle.model.specs.Calls.{get, entry, after-insert}
+use Rattle.model.specs.Machine.{stepping}
+use Rattle.model.specs.Walk.{paceTo}
+use Rattle.answers.specs.declared.Numbers.{Numbers}
+use Rattle.answers.specs.Said.{storedSaid, joinedSaid, spannedSaid, spanHanded, spanOnlyHanded, stepSaid}
+use Rattle.kinds.specs.Columns.{values, nothing}
+use Rattle.kinds.specs.Told.{Told, told}
+use Rattle.byte_slots.specs.Memory.{Strings, strings, usedOf, memory, offsetAt, lengthAt}
+
+-- A byte map as a store, and its lent lists.
+abbrev pub maps : Store (List ℕ) ℕ
+maps = strings values
+
+abbrev pub mapMemory : List ℕ → List ℕ → List ℕ → List ℕ → List ℕ → Strings values
+mapMemory marks offsets lengths vs arena = memory values marks offsets lengths arena vs
+
+-- A byte set as a store, and its lent lists.
+abbrev pub sets : Store (List ℕ) (Unit {0})
+sets = strings nothing
+
+abbrev pub setMemory : List ℕ → List ℕ → List ℕ → List ℕ → Strings nothing
+setMemory marks offsets lengths arena = memory nothing marks offsets lengths arena tt
+
+-- A byte map's insert: a fresh key goes to the offset `used`.
+unfoldable pub insertOf : Strings values → List ℕ → ℕ → Told (Strings values)
+insertOf m k v = told (storedSaid (usedOf (m .spans)) (entry maps m k)) (after-insert maps m k v)
+
+-- A byte set's insert: a fresh key goes to the offset `used`.
+unfoldable pub joinOf : Strings nothing → List ℕ → Told (Strings nothing)
+joinOf m k = told (joinedSaid (usedOf (m .spans)) (entry sets m k)) (after-insert sets m k tt)
+
+-- A byte set's get: the stored key's span.
+unfoldable pub spanOf : Strings nothing → List ℕ → Numbers
+spanOf m k = spannedSaid (offsetAt (m .spans)) (lengthAt (m .spans)) (get sets m k)
+
+-- The slots of a step of a byte map's walk from `at`, so many; and a step with a budget.
+unfoldable pub paceOf : Strings values → ℕ → ℕ → Numbers
+paceOf m at slots = stepSaid (spanHanded (offsetAt (m .spans)) (lengthAt (m .spans))) at (paceTo (maps .slots m) at slots)
+
+unfoldable pub stepOf : Strings values → ℕ → ℕ → Numbers
+stepOf m at budget = stepSaid (spanHanded (offsetAt (m .spans)) (lengthAt (m .spans))) at (stepping maps m at budget)
+
+-- The same for a byte set.
+unfoldable pub setPaceOf : Strings nothing → ℕ → ℕ → Numbers
+setPaceOf m at slots = stepSaid (spanOnlyHanded (offsetAt (m .spans)) (lengthAt (m .spans))) at (paceTo (sets .slots m) at slots)
+
+unfoldable pub setStepOf : Strings nothing → ℕ → ℕ → Numbers
+setStepOf m at budget = stepSaid (spanOnlyHanded (offsetAt (m .spans)) (lengthAt (m .spans))) at (stepping sets m at budget)

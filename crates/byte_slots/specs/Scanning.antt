@@ -1,0 +1,16 @@
+-- What the scan of all slots finds, and what stands first in a stretch of slots.
+use Prim.Native.Nat.{ℕ}
+use lib.ListN.{length}
+use Rattle.kinds.specs.declared.Scanned.{Scanned}
+use Rattle.kinds.specs.declared.Next.{Next}
+use Rattle.kinds.specs.Scanning.{scanningOf, nextingOf}
+use Rattle.byte_slots.specs.Memory.{Spans}
+use Rattle.byte_slots.specs.Marks.{markAt}
+
+-- The scan of all slots: damage, else the number of live slots.
+unfoldable pub scanning : Spans → Scanned
+scanning s = scanningOf (markAt s) (length (s .marks))
+
+-- The first live or damaged slot from w on, before e.
+unfoldable pub nexting : Spans → ℕ → ℕ → Next
+nexting s w e = nextingOf (markAt s) w e

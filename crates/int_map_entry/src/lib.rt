@@ -1,0 +1,96 @@
+// The integer map's entries: an entry answer, and its own calls, which go on by the handle in it; the key is given again each time.
+ghost use mathlib.Core.Path.{_≡_};
+ghost use lib.ListN.{length};
+ghost use Rattle.kinds.specs.Told.{told};
+ghost use Rattle.int_map_vacant.specs.Numbers.{standingNumbers};
+ghost use Rattle.int_map_entry.specs.Numbers.{enteredNumbers};
+ghost use Rattle.int_map_entry.specs.Calls.{placeOf, handleOf};
+ghost use Rattle.kinds.specs.Calls.{entryOf, orInsertOf, insertEntryOf};
+ghost use Rattle.int_slots.specs.Maps.{maps, before, after};
+use answers::Refusal;
+use kinds::Probed;
+
+// The handles and the answers of their calls stand in `int_map_occupied` and `int_map_vacant`, and are had here too.
+pub use int_map_occupied::Held;
+pub use int_map_occupied::Occupied;
+pub use int_map_occupied::Swapped;
+pub use int_map_occupied::Taken;
+pub use int_map_occupied::TakenEntry;
+pub use int_map_vacant::Standing;
+pub use int_map_vacant::Vacant;
+
+// The answer of entry: an occupied handle with the value, or a vacant one, each with the examined number.
+pub enum Entered {
+    Occupied(Occupied, u64, usize),
+    Vacant(Vacant, usize),
+    Refused(Refusal),
+}
+
+// Where a key stands or would go; refused exactly as insert would be.
+pub fn entry(marks: &[u8], keys: &[u64], values: &[u64], key: u64) -> Entered
+    ensures { λ r. ⌜ enteredNumbers r ≡ entryOf maps (before marks keys values) key ⌝ }
+{
+    let seen = int_slots::seek(marks, keys, values, key);
+    match seen {
+        Probed::Hit(slot, examined) => Entered::Occupied(Occupied { slot }, values[slot], examined),
+        Probed::Free(slot, examined) => Entered::Vacant(Vacant { slot }, examined),
+        Probed::Full(_) => Entered::Refused(Refusal::NoSlot),
+        Probed::Refused(r) => Entered::Refused(r),
+    }
+}
+
+impl Entered {
+    // The vacant handle of an answer that is not occupied; a refused one counts as a handle of slot S.
+    fn place(self, size: usize) -> Vacant
+        ensures { λ r. ⌜ r .slot ≡ placeOf size self ⌝ }
+    {
+        let Entered::Vacant(place, _) = self else {
+            return Vacant { slot: size };
+        };
+        place
+    }
+
+    // Keeps a present value, else puts the default in; the value now in the slot is answered.
+    pub fn or_insert(
+        self,
+        marks: &mut [u8],
+        keys: &mut [u64],
+        values: &mut [u64],
+        key: u64,
+        default: u64,
+    ) -> Standing
+        ensures { λ r. ⌜ told (standingNumbers r) (after marks keys values) ≡ orInsertOf maps (before marks keys values) (handleOf (length (now (marks .entry))) self) key default ⌝ }
+    {
+        let Entered::Occupied(handle, _, _) = self else {
+            return self.place(marks.len())
+                .insert(marks, keys, values, key, default);
+        };
+        let held = handle.get(marks, keys, values, key);
+        match held {
+            Held::Value(value, _) => Standing::Now(handle, value),
+            Held::Refused(r) => Standing::Refused(r),
+        }
+    }
+
+    // Replaces a present value, else puts the value in; the value now in the slot is answered.
+    pub fn insert_entry(
+        self,
+        marks: &mut [u8],
+        keys: &mut [u64],
+        values: &mut [u64],
+        key: u64,
+        value: u64,
+    ) -> Standing
+        ensures { λ r. ⌜ told (standingNumbers r) (after marks keys values) ≡ insertEntryOf maps (before marks keys values) (handleOf (length (now (marks .entry))) self) key value ⌝ }
+    {
+        let Entered::Occupied(handle, _, _) = self else {
+            return self.place(marks.len())
+                .insert(marks, keys, values, key, value);
+        };
+        let swapped = handle.set(marks, keys, values, key, value);
+        match swapped {
+            Swapped::Was(_, _) => Standing::Now(handle, value),
+            Swapped::Refused(r) => Standing::Refused(r),
+        }
+    }
+}

@@ -1,0 +1,35 @@
+-- Each contract settles its answer: two results that it allows are equal.
+use Prim.Native.Nat.{ℕ}
+use Rattle.answers.specs.Numbers.{countedNumbers, emptinessNumbers, reservedNumbers, gotNumbers, containedNumbers}
+use Rattle.answers.proofs.Equal.{countedNumbers-injective, emptinessNumbers-injective, reservedNumbers-injective, gotNumbers-injective, containedNumbers-injective}
+use Rattle.kinds.specs.Columns.{values}
+use Rattle.kinds.specs.Told.{Settled}
+use Rattle.kinds.proofs.Settled.{settled}
+use Rattle.int_slots.specs.Memory.{Cells}
+use Rattle.kinds.specs.Calls.{capacityOf, lenOf, isEmptyOf, reserveOf, getOf, containsOf}
+use Rattle.int_slots.specs.Maps.{maps}
+
+module _ (m : Cells values) where
+  -- `capacity`.
+  pub capacity-settled : Settled countedNumbers (capacityOf maps m)
+  capacity-settled = settled countedNumbers-injective
+
+  -- `len`.
+  pub len-settled : Settled countedNumbers (lenOf maps m)
+  len-settled = settled countedNumbers-injective
+
+  -- `is_empty`.
+  pub is-empty-settled : Settled emptinessNumbers (isEmptyOf maps m)
+  is-empty-settled = settled emptinessNumbers-injective
+
+  -- `reserve`.
+  pub reserve-settled : (asked : ℕ) → Settled reservedNumbers (reserveOf maps m asked)
+  reserve-settled asked = settled reservedNumbers-injective
+
+  -- `get`.
+  pub get-settled : (k : ℕ) → Settled gotNumbers (getOf maps m k)
+  get-settled k = settled gotNumbers-injective
+
+  -- `contains_key`.
+  pub contains-key-settled : (k : ℕ) → Settled containedNumbers (containsOf maps m k)
+  contains-key-settled k = settled containedNumbers-injective

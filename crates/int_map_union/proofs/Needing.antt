@@ -1,0 +1,105 @@
+-- What the right needs of the left, slot by slot.
+use Prim.Native.Nat.{ℕ, zero, suc, _+_, _≤_, _<_}
+use mathlib.Core.Bool.{Bool, true, false, cond}
+use mathlib.Core.List.{List}
+use mathlib.Core.Path.{_≡_, refl}
+use native.Mathlib.Numerals.{add-one}
+use native.Mathlib.Omega.{arith}
+use lib.Dec.{ltb}
+use lib.ListN.{length, getD}
+use Rattle.model.specs.Slots.{weigh, total}
+use Rattle.model.specs.Path.{Find, hit, miss, hurt}
+use Rattle.model.specs.Store.{path}
+use Rattle.model.specs.Calls.{missed, lacking}
+use Rattle.model.proofs.Cases.{by-bool}
+use Rattle.digest.specs.Home.{homeOfWord}
+use Rattle.answers.specs.declared.Refusal.{Refusal}
+use Rattle.kinds.specs.declared.Probed.{Probed}
+use Rattle.kinds.specs.declared.Probed.the-variants as probed
+use Rattle.kinds.specs.Columns.{values}
+use Rattle.kinds.specs.Marks.{cell}
+use Rattle.int_slots.specs.Memory.{Cells, memory}
+use Rattle.kinds.specs.Probing.{along}
+use Rattle.int_slots.specs.Seeking.{fittingMap, seekingMap}
+use Rattle.int_slots.specs.Maps.{maps}
+use Rattle.int_map_union.specs.Calls.{lackOf, lacksOf}
+use Rattle.int_slots.proofs.Seeking.{path-sought}
+
+-- Whether a probing that ended so found no key.
+abbrev missedOf : Probed → Bool
+missedOf (probed.Hit s e) = false
+missedOf (probed.Free s e) = true
+missedOf (probed.Full e) = true
+missedOf (probed.Refused r) = true
+
+missed-along : (S h : ℕ) (x : Find ℕ) → missed maps x ≡ missedOf (along S h x)
+unfolding missed along
+missed-along S h (hit n v) = refl
+missed-along S h (miss e f) = by-bool (ltb f S) (λ t. rw t) (λ t. rw t)
+missed-along S h hurt = refl
+
+-- a slot that is not live needs nothing
+pub lack-idle : (l : Cells values) (mark key : ℕ) → (mark ≡ 1 → ⊥) → 0 ≡ lackOf l mark key
+unfolding lackOf cell weigh
+lack-idle l zero key h = refl
+lack-idle l (suc zero) key h = absurd (h refl)
+lack-idle l (suc (suc zero)) key h = refl
+lack-idle l (suc (suc (suc n))) key h = refl
+
+-- a live one by what the probing of its key found in the left
+module _ (marks keys vs : List ℕ) (mark k : ℕ) {r : Probed} (f : fittingMap marks keys vs ≡ true) (one : mark ≡ 1) (p : r ≡ seekingMap marks keys vs k) where
+  lack-live : lackOf (memory marks keys vs) mark k ≡ cond (missedOf r) 1 0
+  unfolding lackOf cell weigh lacking fittingMap seekingMap
+  lack-live = rw (one, missed-along (length marks) (homeOfWord 0 (length marks) k) (path maps (memory marks keys vs) k), ← path-sought values (memory marks keys vs) k f, p)
+
+  pub lack-hit : {s e : ℕ} → r ≡ probed.Hit s e → 0 ≡ lackOf (memory marks keys vs) mark k
+  lack-hit q = rw (lack-live, q)
+
+  pub lack-free : {s e : ℕ} → r ≡ probed.Free s e → 1 ≡ lackOf (memory marks keys vs) mark k
+  lack-free q = rw (lack-live, q)
+
+  pub lack-full : {e : ℕ} → r ≡ probed.Full e → 1 ≡ lackOf (memory marks keys vs) mark k
+  lack-full q = rw (lack-live, q)
+
+  pub lack-refused : {x : Refusal} → r ≡ probed.Refused x → 1 ≡ lackOf (memory marks keys vs) mark k
+  lack-refused q = rw (lack-live, q)
+
+-- a slot needs one at most
+pub lack-low : (l : Cells values) (mark key : ℕ) {x : ℕ} → x ≡ lackOf l mark key → x ≤ 1
+unfolding lackOf cell weigh
+lack-low l mark key e = omega (arith, e, low mark)
+  where
+    low : (mark : ℕ) → lackOf l mark key ≤ 1
+    low zero = omega arith
+    low (suc zero) = by-bool (lacking maps l key) (λ t. rw t (omega arith)) (λ t. rw t (omega arith))
+    low (suc (suc zero)) = omega arith
+    low (suc (suc (suc n))) = omega arith
+
+weigh-cell : (g : ℕ → ℕ) (a v : ℕ) (mark : ℕ) → weigh g (cell mark a v) ≡ weigh g (cell mark a (tt {0}))
+unfolding weigh cell
+weigh-cell g a v zero = refl
+weigh-cell g a v (suc zero) = refl
+weigh-cell g a v (suc (suc zero)) = refl
+weigh-cell g a v (suc (suc (suc n))) = refl
+
+-- the count's state: the needs of the first i slots
+pub record Needing (l r : Cells values) (sum i : ℕ) : Type 0 where
+  pub within : i ≤ length (r .marks)
+  pub low : sum ≤ i
+  pub is : sum ≡ lacksOf l r i
+
+pub need-start : (l r : Cells values) → Needing l r 0 0
+unfolding lacksOf total
+need-start l r = record { within = omega arith; low = omega arith; is = refl }
+
+module _ {l r : Cells values} {sum i : ℕ} (w : Needing l r sum i) where
+  pub need-more : {x : ℕ} → i < length (r .marks) → x ≡ lackOf l (getD (r .marks) i 0) (getD (r .keys) i 0) → Needing l r (sum + x) (i + 1)
+  unfolding lacksOf lackOf total
+  need-more {x} b e = record {
+    within = omega arith;
+    low = omega (arith, lack-low l (getD (r .marks) i 0) (getD (r .keys) i 0) e);
+    is = rw (add-one, weigh-cell (λ k. cond (lacking maps l k) 1 0) (getD (r .keys) i 0) (getD (r .words) i 0) (getD (r .marks) i 0), ← e, w .is);
+  }
+
+  pub need-end : length (r .marks) ≤ i → sum ≡ lacksOf l r (length (r .marks))
+  need-end b = let e : length (r .marks) ≡ i = omega arith in rw e (w .is)

@@ -1,0 +1,118 @@
+-- The insert rule for the right's pairs, slot by slot.
+use Prim.Native.Nat.{ℕ, zero, suc, _+_, _≤_, _<_}
+use mathlib.Core.Bool.{true}
+use mathlib.Core.List.{List, [], _∷_, _++_}
+use mathlib.Core.Path.{_≡_, refl, sym, _∙_, ap}
+use native.Mathlib.Numerals.{add-one}
+use native.Mathlib.Omega.{arith}
+use lib.Dec.{ltb}
+use lib.ListN.{length, getD, set}
+use Rattle.model.specs.Slots.{pairOf, pairs}
+use Rattle.model.specs.Path.{Find, hit, miss, hurt}
+use Rattle.model.specs.Store.{path, slotAt}
+use Rattle.model.specs.Calls.{ruleBy, rule, storeAll}
+use Rattle.model.proofs.Cases.{by-bool}
+use Rattle.digest.specs.Home.{homeOfWord}
+use Rattle.answers.specs.declared.Refusal.{Refusal}
+use Rattle.kinds.specs.declared.Probed.{Probed}
+use Rattle.kinds.specs.declared.Probed.the-variants as probed
+use Rattle.kinds.specs.Columns.{values}
+use Rattle.kinds.specs.Marks.{cell}
+use Rattle.int_slots.specs.Memory.{Cells, memory}
+use Rattle.kinds.specs.Probing.{along}
+use Rattle.int_slots.specs.Seeking.{fittingMap, seekingMap}
+use Rattle.int_slots.specs.Maps.{maps}
+use Rattle.int_map_union.specs.Calls.{slotStored, allStored}
+use Rattle.int_slots.proofs.Seeking.{path-sought}
+
+-- What the rule leaves where the probing of the key ended so.
+abbrev ruleOf : Cells values → ℕ → ℕ → Probed → Cells values
+ruleOf m k v (probed.Hit s e) = maps .over m s v
+ruleOf m k v (probed.Free s e) = maps .fill m s k v
+ruleOf m k v (probed.Full e) = m
+ruleOf m k v (probed.Refused r) = m
+
+module _ (m : Cells values) (k v : ℕ) where
+  rule-along : (x : Find ℕ) → ruleBy maps m k v x ≡ ruleOf m k v (along (length (m .marks)) (homeOfWord 0 (length (m .marks)) k) x)
+  unfolding ruleBy along slotAt
+  rule-along (hit n w) = refl
+  rule-along (miss e f) = by-bool (ltb f (length (m .marks))) (λ t. rw t) (λ t. rw t)
+  rule-along hurt = refl
+
+-- the rule with no test, by what the probing found
+module _ (marks keys vs : List ℕ) (k v : ℕ) {r : Probed} (f : fittingMap marks keys vs ≡ true) (p : r ≡ seekingMap marks keys vs k) where
+  rule-sought : rule maps (memory marks keys vs) k v ≡ ruleOf (memory marks keys vs) k v r
+  unfolding rule fittingMap seekingMap
+  rule-sought = rule-along (memory marks keys vs) k v (path maps (memory marks keys vs) k) ∙ ap (ruleOf (memory marks keys vs) k v) (sym (p ∙ path-sought values (memory marks keys vs) k f))
+
+  pub store-hit : {s e : ℕ} → r ≡ probed.Hit s e → memory marks keys (set vs s v) ≡ rule maps (memory marks keys vs) k v
+  store-hit q = rw (rule-sought, q)
+
+  pub store-free : {s e : ℕ} → r ≡ probed.Free s e → memory (set marks s 1) (set keys s k) (set vs s v) ≡ rule maps (memory marks keys vs) k v
+  store-free q = rw (rule-sought, q)
+
+  pub store-full : {e : ℕ} → r ≡ probed.Full e → memory marks keys vs ≡ rule maps (memory marks keys vs) k v
+  store-full q = rw (rule-sought, q)
+
+  pub store-refused : {x : Refusal} → r ≡ probed.Refused x → memory marks keys vs ≡ rule maps (memory marks keys vs) k v
+  store-refused q = rw (rule-sought, q)
+
+module _ (l : Cells values) (mark k v : ℕ) where
+  -- a live slot's pair goes in by the rule
+  pub slot-live : {m : Cells values} → mark ≡ 1 → m ≡ rule maps l k v → m ≡ slotStored l mark k v
+  unfolding slotStored storeAll pairOf cell
+  slot-live e p = rw e p
+
+  -- another slot stores nothing
+  pub slot-idle : (mark ≡ 1 → ⊥) → l ≡ slotStored l mark k v
+  unfolding slotStored storeAll pairOf cell
+  slot-idle h = go mark h
+    where
+      go : (n : ℕ) → (n ≡ 1 → ⊥) → l ≡ slotStored l n k v
+      go zero h = refl
+      go (suc zero) h = absurd (h refl)
+      go (suc (suc zero)) h = refl
+      go (suc (suc (suc n))) h = refl
+
+-- two lists of pairs, one after the other
+store-append : (ps qs : List (ℕ × ℕ)) (m : Cells values) → storeAll maps m (ps ++ qs) ≡ storeAll maps (storeAll maps m ps) qs
+unfolding storeAll
+store-append [] qs m = refl
+store-append (p ∷ ps) qs m = store-append ps qs (rule maps m (p .0) (p .1))
+
+-- the pair of the last slot goes in last
+store-last : (l r : Cells values) (i : ℕ) → allStored l r (suc i) ≡ slotStored (allStored l r i) (getD (r .marks) i 0) (getD (r .keys) i 0) (getD (r .words) i 0)
+unfolding allStored slotStored pairs
+store-last l r i = store-append (pairs (maps .slots r) i) (pairOf (maps .slots r i)) l
+
+-- the loop's state: the pairs of the first i slots are in, and each list has its length
+pub record Storing (l r m : Cells values) (i : ℕ) : Type 0 where
+  pub within : i ≤ length (r .marks)
+  pub marks-long : length (m .marks) ≡ length (l .marks)
+  pub keys-long : length (m .keys) ≡ length (l .keys)
+  pub words-long : length (m .words) ≡ length (l .words)
+  pub is : m ≡ allStored l r i
+
+pub store-start : (l r : Cells values) → Storing l r l 0
+unfolding allStored storeAll pairs
+store-start l r = record { within = omega arith; marks-long = refl; keys-long = refl; words-long = refl; is = refl }
+
+module _ {l r m : Cells values} {i : ℕ} (w : Storing l r m i) where
+  -- the sizes stay right
+  pub store-fit : fittingMap (l .marks) (l .keys) (l .words) ≡ true → fittingMap (m .marks) (m .keys) (m .words) ≡ true
+  unfolding fittingMap
+  store-fit f = rw (w .marks-long, w .keys-long, w .words-long) f
+
+  -- one slot more: its pair comes last
+  pub store-more : {n : Cells values} → i < length (r .marks) → n ≡ slotStored m (getD (r .marks) i 0) (getD (r .keys) i 0) (getD (r .words) i 0)
+      → length (n .marks) ≡ length (m .marks) → length (n .keys) ≡ length (m .keys) → length (n .words) ≡ length (m .words) → Storing l r n (i + 1)
+  store-more {n} b e x y z = record {
+    within = omega arith;
+    marks-long = x ∙ w .marks-long;
+    keys-long = y ∙ w .keys-long;
+    words-long = z ∙ w .words-long;
+    is = rw (add-one, store-last l r i, ← w .is) e;
+  }
+
+  pub store-end : length (r .marks) ≤ i → m ≡ allStored l r (length (r .marks))
+  store-end b = let e : length (r .marks) ≡ i = omega arith in rw e (w .is)

@@ -1,0 +1,31 @@
+-- The parts that the union of integer maps takes one after the other: the theory's definitions, at this store.
+use Prim.Native.Nat.{ℕ}
+use mathlib.Core.Bool.{cond}
+use Rattle.model.specs.Slots.{weigh, total, pairOf, pairs}
+use Rattle.model.specs.Calls.{storeAll, lacking, union}
+use Rattle.answers.specs.declared.Numbers.{Numbers}
+use Rattle.answers.specs.Said.{doneSaid}
+use Rattle.kinds.specs.Columns.{values}
+use Rattle.kinds.specs.Marks.{cell}
+use Rattle.int_slots.specs.Memory.{Cells}
+use Rattle.int_slots.specs.Maps.{maps}
+
+-- Its tests alone.
+unfoldable pub planOf : Cells values → Cells values → Numbers
+planOf l r = doneSaid (union maps l r)
+
+-- What a slot of the right with this mark and key needs: a slot where it is live and the left lacks its key.
+unfoldable pub lackOf : Cells values → ℕ → ℕ → ℕ
+lackOf l mark key = weigh (λ k. cond (lacking maps l k) 1 0) (cell mark key (tt {0}))
+
+-- What the first n slots of the right need.
+unfoldable pub lacksOf : Cells values → Cells values → ℕ → ℕ
+lacksOf l r n = total (λ k. cond (lacking maps l k) 1 0) (maps .slots r) n
+
+-- The insert rule for the pair of a slot with this mark, key and value.
+unfoldable pub slotStored : Cells values → ℕ → ℕ → ℕ → Cells values
+slotStored l mark key value = storeAll maps l (pairOf (cell mark key value))
+
+-- The insert rule for the pairs of the first n slots of the right.
+unfoldable pub allStored : Cells values → Cells values → ℕ → Cells values
+allStored l r n = storeAll maps l (pairs (maps .slots r) n)

@@ -1,0 +1,67 @@
+// The integer map's vacant handles: small values that their own call takes; the key is given again, and the slot's occupied handle is handed back.
+ghost use mathlib.Core.Path.{_≡_};
+ghost use Rattle.answers.specs.Numbers.{outcomeNumbers};
+ghost use Rattle.kinds.specs.Told.{told};
+ghost use Rattle.int_map_vacant.specs.Numbers.{standingNumbers};
+ghost use Rattle.int_map_vacant.specs.Calls.{freshOf};
+ghost use Rattle.kinds.specs.Calls.{standingOf};
+ghost use Rattle.int_slots.specs.Maps.{maps, before, after};
+use answers::Outcome;
+use answers::Refusal;
+use int_map_occupied::Occupied;
+use kinds::Probed;
+
+// A handle of the slot that a key would take.
+pub struct Vacant {
+    pub slot: usize,
+}
+
+// The answer of the calls that leave the key in a slot: its handle, and the value now in the slot.
+pub enum Standing {
+    Now(Occupied, u64),
+    Refused(Refusal),
+}
+
+// Whether a vacant handle of this slot is good for the key: insert would use that very slot.
+fn fresh_at(marks: &[u8], keys: &[u64], values: &[u64], slot: usize, key: u64) -> Outcome
+    ensures { λ r. ⌜ outcomeNumbers r ≡ freshOf (before marks keys values) slot key ⌝ }
+{
+    let seen = int_slots::seek(marks, keys, values, key);
+    match seen {
+        Probed::Free(free, _) => {
+            if slot == free {
+                return Outcome::Done;
+            }
+            return Outcome::Refused(Refusal::BadHandle);
+        }
+        Probed::Hit(_, _) => return Outcome::Refused(Refusal::BadHandle),
+        Probed::Full(_) => return Outcome::Refused(Refusal::BadHandle),
+        Probed::Refused(r) => return Outcome::Refused(r),
+    }
+}
+
+impl Vacant {
+    // Puts the key and a value into the slot, where insert would use that very slot.
+    pub fn insert(
+        self,
+        marks: &mut [u8],
+        keys: &mut [u64],
+        values: &mut [u64],
+        key: u64,
+        value: u64,
+    ) -> Standing
+        ensures { λ r. ⌜ told (standingNumbers r) (after marks keys values) ≡ standingOf maps (before marks keys values) (self .slot) key value ⌝ }
+    {
+        let slot = self.slot;
+        let worth = fresh_at(marks, keys, values, slot, key);
+        match worth {
+            Outcome::Done => {
+                marks[slot] = 1;
+                keys[slot] = key;
+                values[slot] = value;
+                Standing::Now(Occupied { slot }, value)
+            }
+            Outcome::Refused(r) => Standing::Refused(r),
+        }
+    }
+}

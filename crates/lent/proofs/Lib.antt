@@ -1,3 +1,0 @@
--- What the proofs of lent walks share.
-pub mod Moved
-pub mod Walks

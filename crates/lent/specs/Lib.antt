@@ -1,2 +1,0 @@
--- The definition of a lent walk's step.
-pub mod Moved
