@@ -21,6 +21,11 @@ abbrev pub saidSpan : ℕ → ℕ → ℕ → ℕ → ℕ → Numbers
 saidSpan c s e o l =
     record { refusal = 0; case = c; key = 0; value = 0; slot = s; examined = e; walk = 0; offset = o; length = l }
 
+-- The numbers of a step, with its walk.
+abbrev pub walked : ℕ → ℕ → ℕ → ℕ → ℕ → ℕ → Numbers
+walked refusal case key value examined walk =
+    record { refusal = refusal; case = case; key = key; value = value; slot = 0; examined = examined; walk = walk; offset = 0; length = 0 }
+
 -- make, clear, copy and union: done.
 unfoldable pub doneSaid : {A : Type 0} → Or A → Numbers
 doneSaid (no n) = saidNo n

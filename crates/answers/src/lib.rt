@@ -1,8 +1,9 @@
 // What the calls answer: refusals with the paper's numbers, the record of the paper's numbers, and the answer of the home slot.
 ghost use mathlib.Core.Path.{_≡_};
 ghost use Rattle.answers.specs.Refusals.{numberOf};
-ghost use Rattle.answers.specs.Said.{saidCase, saidSpan};
-ghost use Rattle.answers.specs.Numbers.{refusalNumbers, outcomeNumbers, countedNumbers, emptinessNumbers, reservedNumbers, gotNumbers, memberNumbers, containedNumbers, insertedNumbers, addedNumbers, removedNumbers, droppedNumbers, storedNumbers, joinedNumbers, spannedNumbers};
+ghost use Rattle.answers.specs.Returned.{returned};
+ghost use Rattle.answers.specs.Said.{handed, saidCase, saidSpan, walked};
+ghost use Rattle.answers.specs.Numbers.{refusalNumbers, homedNumbers, outcomeNumbers, countedNumbers, emptinessNumbers, reservedNumbers, gotNumbers, memberNumbers, containedNumbers, insertedNumbers, addedNumbers, removedNumbers, droppedNumbers, storedNumbers, joinedNumbers, spannedNumbers};
 
 // What a call may say no with, in the order of the paper's table.
 pub enum Refusal {
@@ -29,6 +30,9 @@ pub struct Numbers {
     pub offset: u64,
     pub length: u64,
 }
+
+// What is added to a refusal's number where C is handed one word.
+const REFUSED: u64 = 65536;
 
 // The answer of the home slot.
 pub enum Homed {
@@ -204,6 +208,53 @@ pub fn span_numbers(
     }
 }
 
+// The numbers of a step that left its walk at this slot.
+pub fn walk_numbers(
+    refusal: u64,
+    case: u64,
+    key: u64,
+    value: u64,
+    examined: usize,
+    walk: usize,
+) -> Numbers
+    ensures { λ n. ⌜ n ≡ walked refusal case key value examined walk ⌝ }
+{
+    Numbers {
+        refusal,
+        case,
+        key,
+        value,
+        slot: 0,
+        examined: examined as u64,
+        walk: walk as u64,
+        offset: 0,
+        length: 0,
+    }
+}
+
+// The numbers of a step that hands out a key's offset and length, and in a map its value, and left its walk at this slot.
+pub fn span_walk_numbers(
+    value: u64,
+    offset: usize,
+    length: usize,
+    examined: usize,
+    at: usize,
+) -> Numbers
+    ensures { λ n. ⌜ n ≡ handed 0 value offset length at examined ⌝ }
+{
+    Numbers {
+        refusal: 0,
+        case: 14,
+        key: 0,
+        value,
+        slot: 0,
+        examined: examined as u64,
+        walk: at as u64,
+        offset: offset as u64,
+        length: length as u64,
+    }
+}
+
 // The numbers of make, clear, copy and union.
 pub fn outcome_numbers(a: Outcome) -> Numbers
     ensures { λ n. ⌜ n ≡ outcomeNumbers a ⌝ }
@@ -358,5 +409,15 @@ pub fn spanned_numbers(a: Spanned) -> Numbers
         ),
         Spanned::Absent(examined) => case_numbers(8, 0, 0, 0, examined),
         Spanned::Refused(r) => refusal_numbers(r),
+    }
+}
+
+// The slot, or 65,536 plus the number of the refusal.
+pub fn home_returned(answer: Homed) -> u64
+    ensures { λ r. ⌜ r ≡ returned (homedNumbers answer) ⌝ }
+{
+    match answer {
+        Homed::At(slot) => slot,
+        Homed::Refused(refusal) => REFUSED + number(refusal),
     }
 }

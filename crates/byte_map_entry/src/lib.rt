@@ -2,13 +2,17 @@
 ghost use mathlib.Core.Path.{_≡_};
 ghost use lib.ListN.{length};
 ghost use Rattle.kinds.specs.Calls.{entryOf, orInsertOf, insertEntryOf};
+ghost use Rattle.kinds.specs.Handing.{Hands};
 ghost use Rattle.kinds.specs.Told.{told};
 ghost use Rattle.byte_slots.specs.Kinds.{maps};
 ghost use Rattle.byte_slots.specs.Maps.{before, after};
 ghost use Rattle.byte_map_vacant.specs.Numbers.{standingNumbers};
 ghost use Rattle.byte_map_entry.specs.Numbers.{enteredNumbers};
 ghost use Rattle.byte_map_entry.specs.Calls.{placeOf, handleOf};
+use answers::Numbers;
 use answers::Refusal;
+use answers::case_numbers;
+use answers::refusal_numbers;
 use byte_map::place;
 use byte_slots::Placed;
 
@@ -104,4 +108,45 @@ impl Entered {
             Swapped::Refused(r) => Standing::Refused(r),
         }
     }
+}
+
+// The numbers of entry.
+pub fn entered_numbers(a: Entered) -> Numbers
+    ensures { λ n. ⌜ n ≡ enteredNumbers a ⌝ }
+{
+    match a {
+        Entered::Occupied(handle, value, examined) => case_numbers(
+            12,
+            0,
+            value,
+            handle.slot,
+            examined,
+        ),
+        Entered::Vacant(handle, examined) => case_numbers(13, 0, 0, handle.slot, examined),
+        Entered::Refused(r) => refusal_numbers(r),
+    }
+}
+
+// The entry answer of a case number and a slot: 12 is occupied, 13 vacant, any other number neither.
+pub fn entry_by_case(case: u64, slot: u64) -> Entered
+    ensures { λ r. ⌜ Hands handleOf r case slot ⌝ }
+{
+    if case == 12 {
+        return Entered::Occupied(
+            Occupied {
+                slot: slot as usize,
+            },
+            0,
+            0,
+        );
+    }
+    if case == 13 {
+        return Entered::Vacant(
+            Vacant {
+                slot: slot as usize,
+            },
+            0,
+        );
+    }
+    Entered::Refused(Refusal::BadHandle)
 }

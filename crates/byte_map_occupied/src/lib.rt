@@ -7,10 +7,13 @@ ghost use Rattle.byte_slots.specs.Kinds.{maps};
 ghost use Rattle.byte_slots.specs.Maps.{before, after};
 ghost use Rattle.byte_map_occupied.specs.Numbers.{heldNumbers, swappedNumbers, takenNumbers};
 ghost use Rattle.byte_map_occupied.specs.Planning.{heldBy, gripping, holding, pulledBy, pulling};
+use answers::Numbers;
 use answers::Refusal;
+use answers::case_numbers;
+use answers::refusal_numbers;
 use byte_map_reads::map_fits;
-use kinds::Sight;
 use byte_slots::Surveyed;
+use kinds::Sight;
 
 // A handle of a slot that holds a key.
 pub struct Occupied {
@@ -210,5 +213,35 @@ impl Occupied {
         ensures { λ r. ⌜ told (takenNumbers r) (after marks offsets lengths values arena) ≡ takenOf maps (before marks offsets lengths values arena) (self .slot) (now (key .entry)) ⌝ }
     {
         self.remove(marks, offsets, lengths, values, arena, key)
+    }
+}
+
+// The numbers of an occupied handle's get.
+pub fn held_numbers(a: Held) -> Numbers
+    ensures { λ n. ⌜ n ≡ heldNumbers a ⌝ }
+{
+    match a {
+        Held::Value(value, handle) => case_numbers(17, 0, value, handle.slot, 0),
+        Held::Refused(r) => refusal_numbers(r),
+    }
+}
+
+// The numbers of its set.
+pub fn swapped_numbers(a: Swapped) -> Numbers
+    ensures { λ n. ⌜ n ≡ swappedNumbers a ⌝ }
+{
+    match a {
+        Swapped::Was(old, handle) => case_numbers(18, 0, old, handle.slot, 0),
+        Swapped::Refused(r) => refusal_numbers(r),
+    }
+}
+
+// The numbers of its remove and remove_entry.
+pub fn taken_numbers(a: Taken) -> Numbers
+    ensures { λ n. ⌜ n ≡ takenNumbers a ⌝ }
+{
+    match a {
+        Taken::Removed(old) => case_numbers(11, 0, old, 0, 0),
+        Taken::Refused(r) => refusal_numbers(r),
     }
 }

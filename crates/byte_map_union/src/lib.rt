@@ -16,14 +16,14 @@ use answers::Outcome;
 use answers::Refusal;
 use byte_arena::fill;
 use byte_map_reads::map_fits;
-use kinds::Probed;
-use kinds::count_mark;
 use byte_slots::Surveyed;
 use byte_slots::len_at;
 use byte_slots::mark_at;
 use byte_slots::offset_at;
 use byte_slots::probe;
 use byte_slots::survey;
+use kinds::Probed;
+use kinds::count_mark;
 
 // What the left has to have room for: so many slots, and so many bytes.
 pub struct Needed {

@@ -6,7 +6,10 @@ ghost use Rattle.byte_slots.specs.Kinds.{maps};
 ghost use Rattle.byte_slots.specs.Maps.{before, after};
 ghost use Rattle.byte_map_vacant.specs.Numbers.{standingNumbers};
 ghost use Rattle.byte_map_vacant.specs.Planning.{freshBy};
+use answers::Numbers;
 use answers::Refusal;
+use answers::case_numbers;
+use answers::refusal_numbers;
 use byte_map_occupied::Occupied;
 use byte_slots::Placed;
 
@@ -73,5 +76,15 @@ impl Vacant {
             }
             Fresh::Refused(r) => Standing::Refused(r),
         }
+    }
+}
+
+// The numbers of the calls that leave the key in a slot.
+pub fn standing_numbers(a: Standing) -> Numbers
+    ensures { λ n. ⌜ n ≡ standingNumbers a ⌝ }
+{
+    match a {
+        Standing::Now(handle, value) => case_numbers(19, 0, value, handle.slot, 0),
+        Standing::Refused(r) => refusal_numbers(r),
     }
 }

@@ -7,13 +7,17 @@ ghost use Rattle.kinds.specs.Moved.{movedOn};
 ghost use Rattle.byte_slots.specs.Kinds.{paceOf, stepOf};
 ghost use Rattle.byte_slots.specs.Maps.{before};
 ghost use Rattle.byte_map_walk.specs.Numbers.{refusedNumbers, stepNumbers};
+use answers::Numbers;
 use answers::Refusal;
+use answers::number;
+use answers::span_walk_numbers;
+use answers::walk_numbers;
 use byte_map_reads::map_fits;
-use kinds::Next;
-use kinds::reach;
 use byte_slots::len_at;
 use byte_slots::next_live;
 use byte_slots::offset_at;
+use kinds::Next;
+use kinds::reach;
 
 // A walk of a map is the slot where it stands.
 pub struct Walk {
@@ -135,5 +139,26 @@ impl Walk {
         let r = self.step(marks, offsets, lengths, values, arena, budget);
         *self = r.walk;
         r
+    }
+}
+
+// The numbers of a step of a walk.
+pub fn step_numbers(s: Stride) -> Numbers
+    ensures { λ n. ⌜ n ≡ stepNumbers s ⌝ }
+{
+    let at = s.walk.at;
+    let examined = s.examined;
+    let out = s.out;
+    match out {
+        Paced::Pair(offset, length, value) => span_walk_numbers(
+            value,
+            offset,
+            length,
+            examined,
+            at,
+        ),
+        Paced::Nothing => walk_numbers(0, 15, 0, 0, examined, at),
+        Paced::Done => walk_numbers(0, 16, 0, 0, examined, at),
+        Paced::Refused(r) => walk_numbers(number(r), 0, 0, 0, examined, at),
     }
 }

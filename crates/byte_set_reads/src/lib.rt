@@ -10,10 +10,10 @@ use answers::Emptiness;
 use answers::Refusal;
 use answers::Reserved;
 use answers::Spanned;
-use kinds::Probed;
-use kinds::Scanned;
 use byte_slots::len_at;
 use byte_slots::offset_at;
+use kinds::Probed;
+use kinds::Scanned;
 
 // The number of slots.
 pub fn capacity(marks: &[u8], offsets: &[u16], lengths: &[u8], arena: &[u8]) -> Counted

@@ -7,13 +7,17 @@ ghost use Rattle.kinds.specs.Moved.{movedOn};
 ghost use Rattle.byte_slots.specs.Kinds.{setPaceOf, setStepOf};
 ghost use Rattle.byte_slots.specs.Sets.{before};
 ghost use Rattle.byte_set_walk.specs.Numbers.{refusedNumbers, stepNumbers};
+use answers::Numbers;
 use answers::Refusal;
-use kinds::Next;
-use kinds::reach;
+use answers::number;
+use answers::span_walk_numbers;
+use answers::walk_numbers;
 use byte_slots::fits;
 use byte_slots::len_at;
 use byte_slots::next_live;
 use byte_slots::offset_at;
+use kinds::Next;
+use kinds::reach;
 
 // A walk of a set is the slot where it stands.
 pub struct Walk {
@@ -132,5 +136,20 @@ impl Walk {
         let r = self.step(marks, offsets, lengths, arena, budget);
         *self = r.walk;
         r
+    }
+}
+
+// The numbers of a step of a walk.
+pub fn step_numbers(s: Stride) -> Numbers
+    ensures { λ n. ⌜ n ≡ stepNumbers s ⌝ }
+{
+    let at = s.walk.at;
+    let examined = s.examined;
+    let out = s.out;
+    match out {
+        Paced::Member(offset, length) => span_walk_numbers(0, offset, length, examined, at),
+        Paced::Nothing => walk_numbers(0, 15, 0, 0, examined, at),
+        Paced::Done => walk_numbers(0, 16, 0, 0, examined, at),
+        Paced::Refused(r) => walk_numbers(number(r), 0, 0, 0, examined, at),
     }
 }

@@ -1,13 +1,17 @@
 // The integer map's entries: an entry answer, and its own calls, which go on by the handle in it; the key is given again each time.
 ghost use mathlib.Core.Path.{_≡_};
 ghost use lib.ListN.{length};
+ghost use Rattle.kinds.specs.Handing.{Hands};
 ghost use Rattle.kinds.specs.Told.{told};
 ghost use Rattle.int_map_vacant.specs.Numbers.{standingNumbers};
 ghost use Rattle.int_map_entry.specs.Numbers.{enteredNumbers};
 ghost use Rattle.int_map_entry.specs.Calls.{placeOf, handleOf};
 ghost use Rattle.kinds.specs.Calls.{entryOf, orInsertOf, insertEntryOf};
 ghost use Rattle.int_slots.specs.Maps.{maps, before, after};
+use answers::Numbers;
 use answers::Refusal;
+use answers::case_numbers;
+use answers::refusal_numbers;
 use kinds::Probed;
 
 // The handles and the answers of their calls stand in `int_map_occupied` and `int_map_vacant`, and are had here too.
@@ -93,4 +97,45 @@ impl Entered {
             Swapped::Refused(r) => Standing::Refused(r),
         }
     }
+}
+
+// The numbers of entry.
+pub fn entered_numbers(a: Entered) -> Numbers
+    ensures { λ n. ⌜ n ≡ enteredNumbers a ⌝ }
+{
+    match a {
+        Entered::Occupied(handle, value, examined) => case_numbers(
+            12,
+            0,
+            value,
+            handle.slot,
+            examined,
+        ),
+        Entered::Vacant(handle, examined) => case_numbers(13, 0, 0, handle.slot, examined),
+        Entered::Refused(r) => refusal_numbers(r),
+    }
+}
+
+// The entry answer of a case number and a slot: 12 is occupied, 13 vacant, any other number neither.
+pub fn entry_by_case(case: u64, slot: u64) -> Entered
+    ensures { λ r. ⌜ Hands handleOf r case slot ⌝ }
+{
+    if case == 12 {
+        return Entered::Occupied(
+            Occupied {
+                slot: slot as usize,
+            },
+            0,
+            0,
+        );
+    }
+    if case == 13 {
+        return Entered::Vacant(
+            Vacant {
+                slot: slot as usize,
+            },
+            0,
+        );
+    }
+    Entered::Refused(Refusal::BadHandle)
 }

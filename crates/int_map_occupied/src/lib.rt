@@ -8,7 +8,10 @@ ghost use Rattle.answers.specs.Said.{heldSaid};
 ghost use Rattle.int_map_occupied.specs.Numbers.{heldNumbers, swappedNumbers, takenNumbers, takenEntryNumbers};
 ghost use Rattle.int_map_occupied.specs.Calls.{removeEntryOf};
 ghost use Rattle.kinds.specs.Calls.{heldOf, setOf, takenOf};
+use answers::Numbers;
 use answers::Refusal;
+use answers::case_numbers;
+use answers::refusal_numbers;
 
 // A handle of a slot that holds a key.
 pub struct Occupied {
@@ -130,5 +133,45 @@ impl Occupied {
             Taken::Removed(old) => TakenEntry::Removed(key, old),
             Taken::Refused(r) => TakenEntry::Refused(r),
         }
+    }
+}
+
+// The numbers of an occupied handle's get.
+pub fn held_numbers(a: Held) -> Numbers
+    ensures { λ n. ⌜ n ≡ heldNumbers a ⌝ }
+{
+    match a {
+        Held::Value(value, handle) => case_numbers(17, 0, value, handle.slot, 0),
+        Held::Refused(r) => refusal_numbers(r),
+    }
+}
+
+// The numbers of its set.
+pub fn swapped_numbers(a: Swapped) -> Numbers
+    ensures { λ n. ⌜ n ≡ swappedNumbers a ⌝ }
+{
+    match a {
+        Swapped::Was(old, handle) => case_numbers(18, 0, old, handle.slot, 0),
+        Swapped::Refused(r) => refusal_numbers(r),
+    }
+}
+
+// The numbers of its remove.
+pub fn taken_numbers(a: Taken) -> Numbers
+    ensures { λ n. ⌜ n ≡ takenNumbers a ⌝ }
+{
+    match a {
+        Taken::Removed(old) => case_numbers(11, 0, old, 0, 0),
+        Taken::Refused(r) => refusal_numbers(r),
+    }
+}
+
+// The numbers of its remove_entry.
+pub fn taken_entry_numbers(a: TakenEntry) -> Numbers
+    ensures { λ n. ⌜ n ≡ takenEntryNumbers a ⌝ }
+{
+    match a {
+        TakenEntry::Removed(key, old) => case_numbers(11, key, old, 0, 0),
+        TakenEntry::Refused(r) => refusal_numbers(r),
     }
 }

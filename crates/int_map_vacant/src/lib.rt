@@ -6,8 +6,11 @@ ghost use Rattle.int_map_vacant.specs.Numbers.{standingNumbers};
 ghost use Rattle.int_map_vacant.specs.Calls.{freshOf};
 ghost use Rattle.kinds.specs.Calls.{standingOf};
 ghost use Rattle.int_slots.specs.Maps.{maps, before, after};
+use answers::Numbers;
 use answers::Outcome;
 use answers::Refusal;
+use answers::case_numbers;
+use answers::refusal_numbers;
 use int_map_occupied::Occupied;
 use kinds::Probed;
 
@@ -63,5 +66,15 @@ impl Vacant {
             }
             Outcome::Refused(r) => Standing::Refused(r),
         }
+    }
+}
+
+// The numbers of the calls that leave the key in a slot.
+pub fn standing_numbers(a: Standing) -> Numbers
+    ensures { λ n. ⌜ n ≡ standingNumbers a ⌝ }
+{
+    match a {
+        Standing::Now(handle, value) => case_numbers(19, 0, value, handle.slot, 0),
+        Standing::Refused(r) => refusal_numbers(r),
     }
 }

@@ -10,7 +10,10 @@ ghost use Rattle.kinds.specs.Moved.{movedOn};
 ghost use Rattle.int_slots.specs.Sets.{before};
 ghost use Rattle.int_set_walk.specs.Calls.{paceOf, stepOf};
 ghost use Rattle.int_set_walk.specs.Numbers.{stepNumbers};
+use answers::Numbers;
 use answers::Refusal;
+use answers::number;
+use answers::walk_numbers;
 use kinds::Next;
 use kinds::reach;
 
@@ -105,5 +108,20 @@ impl Walk {
         let r = self.step(marks, keys, budget);
         *self = r.walk;
         r
+    }
+}
+
+// The numbers of a step of a walk.
+pub fn step_numbers(s: Stride) -> Numbers
+    ensures { λ n. ⌜ n ≡ stepNumbers s ⌝ }
+{
+    let at = s.walk.at;
+    let examined = s.examined;
+    let out = s.out;
+    match out {
+        Paced::Member(key) => walk_numbers(0, 14, key, 0, examined, at),
+        Paced::Nothing => walk_numbers(0, 15, 0, 0, examined, at),
+        Paced::Done => walk_numbers(0, 16, 0, 0, examined, at),
+        Paced::Refused(r) => walk_numbers(number(r), 0, 0, 0, examined, at),
     }
 }

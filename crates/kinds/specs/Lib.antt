@@ -1,6 +1,7 @@
 -- The definitions that all kinds of tables share.
 pub mod Calls
 pub mod Columns
+pub mod Handing
 pub mod Lent
 pub mod Marks
 pub mod Moved

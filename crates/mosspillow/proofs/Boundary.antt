@@ -9,7 +9,7 @@ use Rattle.digest.specs.Digest.{digestOf}
 use Rattle.digest.specs.Home.{homedOf}
 use Rattle.digest.proofs.Bounds.{home-below}
 use Rattle.digest.proofs.Refusals.{Fit, Unfit, home-refused-1, home-refused-2, home-answered}
-use Rattle.numbers.specs.Returned.{returned}
+use Rattle.answers.specs.Returned.{returned}
 
 module _ (slots : ℕ) (bytes : List ℕ) where
   -- What `moss_home` hands back.

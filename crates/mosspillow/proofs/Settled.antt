@@ -9,7 +9,7 @@ use Rattle.kinds.specs.Told.{Told, Settled, SettledWith}
 use Rattle.kinds.proofs.Settled.{settled, settled-with}
 use Rattle.digest.specs.Digest.{digestOf}
 use Rattle.digest.specs.Home.{homedOf}
-use Rattle.numbers.specs.Returned.{returned}
+use Rattle.answers.specs.Returned.{returned}
 
 -- `moss_digest`.
 pub moss-digest-settled : (bytes : List ℕ) (r s : ℕ) → r ≡ digestOf bytes → s ≡ digestOf bytes → r ≡ s

@@ -5,16 +5,16 @@ ghost use Rattle.kinds.specs.Told.{told};
 ghost use Rattle.kinds.specs.Calls.{entryOf, heldOf, setOf, takenOf, standingOf, orInsertOf, insertEntryOf};
 ghost use Rattle.byte_slots.specs.Kinds.{maps};
 ghost use Rattle.byte_slots.specs.Maps.{before, after};
-ghost use Rattle.numbers.specs.Handed.{handleAs};
+ghost use Rattle.kinds.specs.Handing.{handleAs};
 use answers::Numbers;
+use byte_map_entry::entered_numbers;
+use byte_map_entry::entry_by_case;
 use byte_map_occupied::Occupied;
+use byte_map_occupied::held_numbers;
+use byte_map_occupied::swapped_numbers;
+use byte_map_occupied::taken_numbers;
 use byte_map_vacant::Vacant;
-use numbers::byte_entries::entered;
-use numbers::byte_entries::entered_numbers;
-use numbers::byte_entries::held_numbers;
-use numbers::byte_entries::standing_numbers;
-use numbers::byte_entries::swapped_numbers;
-use numbers::byte_entries::taken_numbers;
+use byte_map_vacant::standing_numbers;
 
 // Where a key stands or would go.
 #[no_mangle]
@@ -143,7 +143,7 @@ pub extern "C" fn moss_byte_map_or_insert(
 ) -> Numbers
     ensures { λ r. ⌜ told r (after marks offsets lengths values arena) ≡ orInsertOf maps (before marks offsets lengths values arena) (handleAs (length (now (marks .entry))) case slot) (now (key .entry)) default ⌝ }
 {
-    let handle = entered(case, slot);
+    let handle = entry_by_case(case, slot);
     standing_numbers(handle.or_insert(marks, offsets, lengths, values, arena, key, default))
 }
 
@@ -162,6 +162,6 @@ pub extern "C" fn moss_byte_map_insert_entry(
 ) -> Numbers
     ensures { λ r. ⌜ told r (after marks offsets lengths values arena) ≡ insertEntryOf maps (before marks offsets lengths values arena) (handleAs (length (now (marks .entry))) case slot) (now (key .entry)) value ⌝ }
 {
-    let handle = entered(case, slot);
+    let handle = entry_by_case(case, slot);
     standing_numbers(handle.insert_entry(marks, offsets, lengths, values, arena, key, value))
 }

@@ -15,7 +15,7 @@ use answers::removed_numbers;
 use answers::reserved_numbers;
 use answers::stored_numbers;
 use byte_map_walk::Walk;
-use numbers::byte_maps::step_numbers;
+use byte_map_walk::step_numbers;
 
 // Makes an empty map of the lent arrays.
 #[no_mangle]

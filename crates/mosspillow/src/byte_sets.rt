@@ -15,7 +15,7 @@ use answers::outcome_numbers;
 use answers::reserved_numbers;
 use answers::spanned_numbers;
 use byte_set_walk::Walk;
-use numbers::byte_sets::step_numbers;
+use byte_set_walk::step_numbers;
 
 // Makes an empty set of the lent arrays.
 #[no_mangle]

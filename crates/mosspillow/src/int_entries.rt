@@ -5,17 +5,17 @@ ghost use Rattle.kinds.specs.Told.{told};
 ghost use Rattle.int_map_occupied.specs.Calls.{removeEntryOf};
 ghost use Rattle.kinds.specs.Calls.{heldOf, setOf, takenOf, standingOf, entryOf, orInsertOf, insertEntryOf};
 ghost use Rattle.int_slots.specs.Maps.{maps, before, after};
-ghost use Rattle.numbers.specs.Handed.{handleAs};
+ghost use Rattle.kinds.specs.Handing.{handleAs};
 use answers::Numbers;
+use int_map_entry::entered_numbers;
+use int_map_entry::entry_by_case;
 use int_map_occupied::Occupied;
+use int_map_occupied::held_numbers;
+use int_map_occupied::swapped_numbers;
+use int_map_occupied::taken_entry_numbers;
+use int_map_occupied::taken_numbers;
 use int_map_vacant::Vacant;
-use numbers::int_entries::entered;
-use numbers::int_entries::entered_numbers;
-use numbers::int_entries::held_numbers;
-use numbers::int_entries::standing_numbers;
-use numbers::int_entries::swapped_numbers;
-use numbers::int_entries::taken_entry_numbers;
-use numbers::int_entries::taken_numbers;
+use int_map_vacant::standing_numbers;
 
 // Where a key stands or would go.
 #[no_mangle]
@@ -130,7 +130,7 @@ pub extern "C" fn moss_int_map_or_insert(
 ) -> Numbers
     ensures { λ r. ⌜ told r (after marks keys values) ≡ orInsertOf maps (before marks keys values) (handleAs (length (now (marks .entry))) case slot) key default ⌝ }
 {
-    let handle = entered(case, slot);
+    let handle = entry_by_case(case, slot);
     standing_numbers(handle.or_insert(marks, keys, values, key, default))
 }
 
@@ -147,6 +147,6 @@ pub extern "C" fn moss_int_map_insert_entry(
 ) -> Numbers
     ensures { λ r. ⌜ told r (after marks keys values) ≡ insertEntryOf maps (before marks keys values) (handleAs (length (now (marks .entry))) case slot) key value ⌝ }
 {
-    let handle = entered(case, slot);
+    let handle = entry_by_case(case, slot);
     standing_numbers(handle.insert_entry(marks, keys, values, key, value))
 }

@@ -16,7 +16,7 @@ use answers::outcome_numbers;
 use answers::removed_numbers;
 use answers::reserved_numbers;
 use int_map_walk::Walk;
-use numbers::int_maps::step_numbers;
+use int_map_walk::step_numbers;
 
 // Makes an empty map of the lent arrays.
 #[no_mangle]

@@ -17,7 +17,7 @@ use answers::member_numbers;
 use answers::outcome_numbers;
 use answers::reserved_numbers;
 use int_set_walk::Walk;
-use numbers::int_sets::step_numbers;
+use int_set_walk::step_numbers;
 
 // Makes an empty set of the lent arrays.
 #[no_mangle]

@@ -3,10 +3,10 @@ ghost use mathlib.Core.Path.{_≡_};
 ghost use Rattle.answers.specs.Numbers.{homedNumbers};
 ghost use Rattle.digest.specs.Digest.{digestOf};
 ghost use Rattle.digest.specs.Home.{homedOf};
-ghost use Rattle.numbers.specs.Returned.{returned};
+ghost use Rattle.answers.specs.Returned.{returned};
+use answers::home_returned;
 use digest::digest;
 use digest::home;
-use numbers::home_word;
 
 pub mod byte_entries;
 pub mod byte_maps;
@@ -28,5 +28,5 @@ pub extern "C" fn moss_digest(bytes: &[u8]) -> u64
 pub extern "C" fn moss_home(bytes: &[u8], slots: u64) -> u64
     ensures { λ r. ⌜ r ≡ returned (homedNumbers (homedOf 0 slots (now (bytes .entry)))) ⌝ }
 {
-    home_word(home(bytes, slots, 0))
+    home_returned(home(bytes, slots, 0))
 }

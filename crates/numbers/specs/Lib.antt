@@ -1,3 +1,0 @@
--- What is handed over in place of an entry answer, for a step, and for a home slot.
-pub mod Handed
-pub mod Returned
