@@ -1,4 +1,5 @@
 -- The paper's numbers of refusals and answers.
+pub mod Cases
 pub mod Numbers
 pub mod Refusals
 pub mod Returned

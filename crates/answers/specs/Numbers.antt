@@ -1,5 +1,6 @@
 -- The numbers that the paper prints for the answers that are declared here.
 -- Assumes nothing.
+use Rattle.answers.specs.Cases.{DONE, COUNT, EMPTY, HOLDS, ROOM, FOUND, PRESENT, ABSENT, FRESH, REPLACED, REMOVED}
 use Rattle.answers.specs.declared.Refusal.{Refusal}
 use Rattle.answers.specs.declared.Numbers.{Numbers}
 use Rattle.answers.specs.declared.Homed.{Homed}
@@ -33,95 +34,94 @@ use Rattle.answers.specs.declared.Joined.the-variants as joined
 use Rattle.answers.specs.declared.Spanned.{Spanned}
 use Rattle.answers.specs.declared.Spanned.the-variants as spanned
 use Rattle.answers.specs.Refusals.{numberOf}
+use Rattle.answers.specs.Said.{saidNo, saidCase, saidSpan}
 
 -- A refusal: its number, and zeros elsewhere.
 abbrev pub refusalNumbers : Refusal → Numbers
-refusalNumbers r =
-    record { refusal = numberOf r; case = 0; key = 0; value = 0; slot = 0; examined = 0; walk = 0; offset = 0; length = 0 }
+refusalNumbers r = saidNo (numberOf r)
 
 -- The answer of the home slot: case 1 with the slot, or a refusal.
 abbrev pub homedNumbers : Homed → Numbers
-homedNumbers (At s) =
-    record { refusal = 0; case = 1; key = 0; value = 0; slot = s; examined = 0; walk = 0; offset = 0; length = 0 }
+homedNumbers (At s) = saidCase DONE 0 0 s 0
 homedNumbers (Refused r) = refusalNumbers r
 
 -- Of make, clear, copy and union: case 1, done.
 unfoldable pub outcomeNumbers : Outcome → Numbers
-outcomeNumbers outcome.Done = record { refusal = 0; case = 1; key = 0; value = 0; slot = 0; examined = 0; walk = 0; offset = 0; length = 0 }
+outcomeNumbers outcome.Done = saidCase DONE 0 0 0 0
 outcomeNumbers (outcome.Refused r) = refusalNumbers r
 
 -- Of capacity and length: case 2, the count as its value.
 unfoldable pub countedNumbers : Counted → Numbers
-countedNumbers (counted.Count n) = record { refusal = 0; case = 2; key = 0; value = n; slot = 0; examined = 0; walk = 0; offset = 0; length = 0 }
+countedNumbers (counted.Count n) = saidCase COUNT 0 n 0 0
 countedNumbers (counted.Refused r) = refusalNumbers r
 
 -- Of is_empty: case 3, empty, or 4, it holds keys.
 unfoldable pub emptinessNumbers : Emptiness → Numbers
-emptinessNumbers emptiness.Empty = record { refusal = 0; case = 3; key = 0; value = 0; slot = 0; examined = 0; walk = 0; offset = 0; length = 0 }
-emptinessNumbers emptiness.Holds = record { refusal = 0; case = 4; key = 0; value = 0; slot = 0; examined = 0; walk = 0; offset = 0; length = 0 }
+emptinessNumbers emptiness.Empty = saidCase EMPTY 0 0 0 0
+emptinessNumbers emptiness.Holds = saidCase HOLDS 0 0 0 0
 emptinessNumbers (emptiness.Refused r) = refusalNumbers r
 
 -- Of reserve: case 5, room.
 unfoldable pub reservedNumbers : Reserved → Numbers
-reservedNumbers reserved.Room = record { refusal = 0; case = 5; key = 0; value = 0; slot = 0; examined = 0; walk = 0; offset = 0; length = 0 }
+reservedNumbers reserved.Room = saidCase ROOM 0 0 0 0
 reservedNumbers (reserved.Refused r) = refusalNumbers r
 
 -- Of a map's get: case 6, found with value, slot and examined number, or 8, absent with examined number.
 unfoldable pub gotNumbers : Got → Numbers
-gotNumbers (got.Found v s e) = record { refusal = 0; case = 6; key = 0; value = v; slot = s; examined = e; walk = 0; offset = 0; length = 0 }
-gotNumbers (got.Absent e) = record { refusal = 0; case = 8; key = 0; value = 0; slot = 0; examined = e; walk = 0; offset = 0; length = 0 }
+gotNumbers (got.Found v s e) = saidCase FOUND 0 v s e
+gotNumbers (got.Absent e) = saidCase ABSENT 0 0 0 e
 gotNumbers (got.Refused r) = refusalNumbers r
 
 -- Of an integer set's get: case 6, found with key, slot and examined number, or 8, absent with examined number.
 unfoldable pub memberNumbers : Member → Numbers
-memberNumbers (member.Found k s e) = record { refusal = 0; case = 6; key = k; value = 0; slot = s; examined = e; walk = 0; offset = 0; length = 0 }
-memberNumbers (member.Absent e) = record { refusal = 0; case = 8; key = 0; value = 0; slot = 0; examined = e; walk = 0; offset = 0; length = 0 }
+memberNumbers (member.Found k s e) = saidCase FOUND k 0 s e
+memberNumbers (member.Absent e) = saidCase ABSENT 0 0 0 e
 memberNumbers (member.Refused r) = refusalNumbers r
 
 -- Of contains: case 7, present, or 8, absent, with examined number.
 unfoldable pub containedNumbers : Contained → Numbers
-containedNumbers (contained.Present e) = record { refusal = 0; case = 7; key = 0; value = 0; slot = 0; examined = e; walk = 0; offset = 0; length = 0 }
-containedNumbers (contained.Absent e) = record { refusal = 0; case = 8; key = 0; value = 0; slot = 0; examined = e; walk = 0; offset = 0; length = 0 }
+containedNumbers (contained.Present e) = saidCase PRESENT 0 0 0 e
+containedNumbers (contained.Absent e) = saidCase ABSENT 0 0 0 e
 containedNumbers (contained.Refused r) = refusalNumbers r
 
 -- Of an integer map's insert: case 9, fresh with slot and examined number, or 10, replaced with the old value too.
 unfoldable pub insertedNumbers : Inserted → Numbers
-insertedNumbers (inserted.Fresh s e) = record { refusal = 0; case = 9; key = 0; value = 0; slot = s; examined = e; walk = 0; offset = 0; length = 0 }
-insertedNumbers (inserted.Replaced v s e) = record { refusal = 0; case = 10; key = 0; value = v; slot = s; examined = e; walk = 0; offset = 0; length = 0 }
+insertedNumbers (inserted.Fresh s e) = saidCase FRESH 0 0 s e
+insertedNumbers (inserted.Replaced v s e) = saidCase REPLACED 0 v s e
 insertedNumbers (inserted.Refused r) = refusalNumbers r
 
 -- Of an integer set's insert: case 9, fresh, or 10, already there, with slot and examined number.
 unfoldable pub addedNumbers : Added → Numbers
-addedNumbers (added.Fresh s e) = record { refusal = 0; case = 9; key = 0; value = 0; slot = s; examined = e; walk = 0; offset = 0; length = 0 }
-addedNumbers (added.Already s e) = record { refusal = 0; case = 10; key = 0; value = 0; slot = s; examined = e; walk = 0; offset = 0; length = 0 }
+addedNumbers (added.Fresh s e) = saidCase FRESH 0 0 s e
+addedNumbers (added.Already s e) = saidCase REPLACED 0 0 s e
 addedNumbers (added.Refused r) = refusalNumbers r
 
 -- Of a map's remove: case 11, removed with value, slot and examined number, or 8, absent with examined number.
 unfoldable pub removedNumbers : Removed → Numbers
-removedNumbers (removed.Removed v s e) = record { refusal = 0; case = 11; key = 0; value = v; slot = s; examined = e; walk = 0; offset = 0; length = 0 }
-removedNumbers (removed.Absent e) = record { refusal = 0; case = 8; key = 0; value = 0; slot = 0; examined = e; walk = 0; offset = 0; length = 0 }
+removedNumbers (removed.Removed v s e) = saidCase REMOVED 0 v s e
+removedNumbers (removed.Absent e) = saidCase ABSENT 0 0 0 e
 removedNumbers (removed.Refused r) = refusalNumbers r
 
 -- Of a set's remove: case 11, removed with slot and examined number, or 8, absent with examined number.
 unfoldable pub droppedNumbers : Dropped → Numbers
-droppedNumbers (dropped.Removed s e) = record { refusal = 0; case = 11; key = 0; value = 0; slot = s; examined = e; walk = 0; offset = 0; length = 0 }
-droppedNumbers (dropped.Absent e) = record { refusal = 0; case = 8; key = 0; value = 0; slot = 0; examined = e; walk = 0; offset = 0; length = 0 }
+droppedNumbers (dropped.Removed s e) = saidCase REMOVED 0 0 s e
+droppedNumbers (dropped.Absent e) = saidCase ABSENT 0 0 0 e
 droppedNumbers (dropped.Refused r) = refusalNumbers r
 
 -- Of a byte map's insert: case 9, fresh with slot, offset and examined number, or 10, replaced with the old value, slot and examined number.
 unfoldable pub storedNumbers : Stored → Numbers
-storedNumbers (stored.Fresh s o e) = record { refusal = 0; case = 9; key = 0; value = 0; slot = s; examined = e; walk = 0; offset = o; length = 0 }
-storedNumbers (stored.Replaced v s e) = record { refusal = 0; case = 10; key = 0; value = v; slot = s; examined = e; walk = 0; offset = 0; length = 0 }
+storedNumbers (stored.Fresh s o e) = saidSpan FRESH s e o 0
+storedNumbers (stored.Replaced v s e) = saidCase REPLACED 0 v s e
 storedNumbers (stored.Refused r) = refusalNumbers r
 
 -- Of a byte set's insert: case 9, fresh with slot, offset and examined number, or 10, already there with slot and examined number.
 unfoldable pub joinedNumbers : Joined → Numbers
-joinedNumbers (joined.Fresh s o e) = record { refusal = 0; case = 9; key = 0; value = 0; slot = s; examined = e; walk = 0; offset = o; length = 0 }
-joinedNumbers (joined.Already s e) = record { refusal = 0; case = 10; key = 0; value = 0; slot = s; examined = e; walk = 0; offset = 0; length = 0 }
+joinedNumbers (joined.Fresh s o e) = saidSpan FRESH s e o 0
+joinedNumbers (joined.Already s e) = saidCase REPLACED 0 0 s e
 joinedNumbers (joined.Refused r) = refusalNumbers r
 
 -- Of a byte set's get: case 6, found with offset, length, slot and examined number, or 8, absent with examined number.
 unfoldable pub spannedNumbers : Spanned → Numbers
-spannedNumbers (spanned.Found o l s e) = record { refusal = 0; case = 6; key = 0; value = 0; slot = s; examined = e; walk = 0; offset = o; length = l }
-spannedNumbers (spanned.Absent e) = record { refusal = 0; case = 8; key = 0; value = 0; slot = 0; examined = e; walk = 0; offset = 0; length = 0 }
+spannedNumbers (spanned.Found o l s e) = saidSpan FOUND s e o l
+spannedNumbers (spanned.Absent e) = saidCase ABSENT 0 0 0 e
 spannedNumbers (spanned.Refused r) = refusalNumbers r

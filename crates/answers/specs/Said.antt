@@ -5,6 +5,7 @@ use mathlib.Core.Bool.{cond}
 use lib.Dec.{eqb}
 use Rattle.model.specs.Calls.{Or, no, ok, Seen, found, absent, Spot, occupied, vacant}
 use Rattle.model.specs.Walk.{Paced, pair, nothing, done}
+use Rattle.answers.specs.Cases.{DONE, COUNT, EMPTY, HOLDS, ROOM, FOUND, PRESENT, ABSENT, FRESH, REPLACED, REMOVED, OCCUPIED, VACANT, PAIR, NOTHING, WALK-DONE, VALUE, WAS, NOW}
 use Rattle.answers.specs.declared.Numbers.{Numbers}
 
 -- A refusal by its number.
@@ -29,69 +30,69 @@ walked refusal case key value examined walk =
 -- make, clear, copy and union: done.
 unfoldable pub doneSaid : {A : Type 0} → Or A → Numbers
 doneSaid (no n) = saidNo n
-doneSaid (ok a) = saidCase 1 0 0 0 0
+doneSaid (ok a) = saidCase DONE 0 0 0 0
 
 -- capacity and length: the count.
 unfoldable pub countSaid : Or ℕ → Numbers
 countSaid (no n) = saidNo n
-countSaid (ok x) = saidCase 2 0 x 0 0
+countSaid (ok x) = saidCase COUNT 0 x 0 0
 
 -- is_empty: empty where the length is 0.
 unfoldable pub emptySaid : Or ℕ → Numbers
 emptySaid (no n) = saidNo n
-emptySaid (ok x) = cond (eqb x 0) (saidCase 3 0 0 0 0) (saidCase 4 0 0 0 0)
+emptySaid (ok x) = cond (eqb x 0) (saidCase EMPTY 0 0 0 0) (saidCase HOLDS 0 0 0 0)
 
 -- reserve: room.
 unfoldable pub roomSaid : {A : Type 0} → Or A → Numbers
 roomSaid (no n) = saidNo n
-roomSaid (ok a) = saidCase 5 0 0 0 0
+roomSaid (ok a) = saidCase ROOM 0 0 0 0
 
 -- A map's get: found or absent.
 unfoldable pub gotSaid : Or (Seen ℕ) → Numbers
 gotSaid (no n) = saidNo n
-gotSaid (ok (found v s e)) = saidCase 6 0 v s e
-gotSaid (ok (absent e)) = saidCase 8 0 0 0 e
+gotSaid (ok (found v s e)) = saidCase FOUND 0 v s e
+gotSaid (ok (absent e)) = saidCase ABSENT 0 0 0 e
 
 -- An integer set's get of the key k: found or absent.
 unfoldable pub memberSaid : {W : Type 0} → ℕ → Or (Seen W) → Numbers
 memberSaid k (no n) = saidNo n
-memberSaid k (ok (found v s e)) = saidCase 6 k 0 s e
-memberSaid k (ok (absent e)) = saidCase 8 0 0 0 e
+memberSaid k (ok (found v s e)) = saidCase FOUND k 0 s e
+memberSaid k (ok (absent e)) = saidCase ABSENT 0 0 0 e
 
 -- contains: present or absent.
 unfoldable pub containedSaid : {W : Type 0} → Or (Seen W) → Numbers
 containedSaid (no n) = saidNo n
-containedSaid (ok (found v s e)) = saidCase 7 0 0 0 e
-containedSaid (ok (absent e)) = saidCase 8 0 0 0 e
+containedSaid (ok (found v s e)) = saidCase PRESENT 0 0 0 e
+containedSaid (ok (absent e)) = saidCase ABSENT 0 0 0 e
 
 -- An integer map's insert: fresh or replaced.
 unfoldable pub insertedSaid : Or (Spot ℕ) → Numbers
 insertedSaid (no n) = saidNo n
-insertedSaid (ok (vacant s e)) = saidCase 9 0 0 s e
-insertedSaid (ok (occupied s v e)) = saidCase 10 0 v s e
+insertedSaid (ok (vacant s e)) = saidCase FRESH 0 0 s e
+insertedSaid (ok (occupied s v e)) = saidCase REPLACED 0 v s e
 
 -- An integer set's insert: fresh or already there.
 unfoldable pub addedSaid : {W : Type 0} → Or (Spot W) → Numbers
 addedSaid (no n) = saidNo n
-addedSaid (ok (vacant s e)) = saidCase 9 0 0 s e
-addedSaid (ok (occupied s v e)) = saidCase 10 0 0 s e
+addedSaid (ok (vacant s e)) = saidCase FRESH 0 0 s e
+addedSaid (ok (occupied s v e)) = saidCase REPLACED 0 0 s e
 
 -- A map's remove: removed or absent.
 unfoldable pub removedSaid : Or (Seen ℕ) → Numbers
 removedSaid (no n) = saidNo n
-removedSaid (ok (found v s e)) = saidCase 11 0 v s e
-removedSaid (ok (absent e)) = saidCase 8 0 0 0 e
+removedSaid (ok (found v s e)) = saidCase REMOVED 0 v s e
+removedSaid (ok (absent e)) = saidCase ABSENT 0 0 0 e
 
 -- A set's remove: removed or absent.
 unfoldable pub droppedSaid : {W : Type 0} → Or (Seen W) → Numbers
 droppedSaid (no n) = saidNo n
-droppedSaid (ok (found v s e)) = saidCase 11 0 0 s e
-droppedSaid (ok (absent e)) = saidCase 8 0 0 0 e
+droppedSaid (ok (found v s e)) = saidCase REMOVED 0 0 s e
+droppedSaid (ok (absent e)) = saidCase ABSENT 0 0 0 e
 
 -- What a step hands out: a pair's key and value, or its key's offset and length, with the walk moved on and the examined number.
 abbrev pub handed : ℕ → ℕ → ℕ → ℕ → ℕ → ℕ → Numbers
 handed k v o l x e =
-    record { refusal = 0; case = 14; key = k; value = v; slot = 0; examined = e; walk = x; offset = o; length = l }
+    record { refusal = 0; case = PAIR; key = k; value = v; slot = 0; examined = e; walk = x; offset = o; length = l }
 
 -- An integer map hands out key and value.
 abbrev pub pairHanded : ℕ → ℕ → ℕ → ℕ → Numbers
@@ -103,62 +104,59 @@ keyHanded k v x e = handed k 0 0 0 x e
 
 -- A walk's step from w: what it hands out, nothing or done, with the walk moved on; a refusal with the walk as it came.
 unfoldable pub stepSaid : {K W : Type 0} → (K → W → ℕ → ℕ → Numbers) → ℕ → Or (Paced K W) → Numbers
-stepSaid hand w (no n) =
-    record { refusal = n; case = 0; key = 0; value = 0; slot = 0; examined = 0; walk = w; offset = 0; length = 0 }
+stepSaid hand w (no n) = walked n 0 0 0 0 w
 stepSaid hand w (ok (pair k v x e)) = hand k v x e
-stepSaid hand w (ok (nothing x e)) =
-    record { refusal = 0; case = 15; key = 0; value = 0; slot = 0; examined = e; walk = x; offset = 0; length = 0 }
-stepSaid hand w (ok (done x)) =
-    record { refusal = 0; case = 16; key = 0; value = 0; slot = 0; examined = 0; walk = x; offset = 0; length = 0 }
+stepSaid hand w (ok (nothing x e)) = walked 0 NOTHING 0 0 e x
+stepSaid hand w (ok (done x)) = walked 0 WALK-DONE 0 0 0 x
 
 -- entry: occupied or vacant.
 unfoldable pub enteredSaid : Or (Spot ℕ) → Numbers
 enteredSaid (no n) = saidNo n
-enteredSaid (ok (occupied s v e)) = saidCase 12 0 v s e
-enteredSaid (ok (vacant s e)) = saidCase 13 0 0 s e
+enteredSaid (ok (occupied s v e)) = saidCase OCCUPIED 0 v s e
+enteredSaid (ok (vacant s e)) = saidCase VACANT 0 0 s e
 
 -- An occupied handle's get, with its slot: the value.
 unfoldable pub heldSaid : ℕ → Or ℕ → Numbers
 heldSaid s (no n) = saidNo n
-heldSaid s (ok v) = saidCase 17 0 v s 0
+heldSaid s (ok v) = saidCase VALUE 0 v s 0
 
 -- Its set: the old value.
 unfoldable pub swappedSaid : ℕ → Or ℕ → Numbers
 swappedSaid s (no n) = saidNo n
-swappedSaid s (ok v) = saidCase 18 0 v s 0
+swappedSaid s (ok v) = saidCase WAS 0 v s 0
 
 -- Its remove: the value that was there.
 unfoldable pub takenSaid : Or ℕ → Numbers
 takenSaid (no n) = saidNo n
-takenSaid (ok v) = saidCase 11 0 v 0 0
+takenSaid (ok v) = saidCase REMOVED 0 v 0 0
 
 -- Its remove_entry: the key too.
 unfoldable pub takenEntrySaid : ℕ → Or ℕ → Numbers
 takenEntrySaid k (no n) = saidNo n
-takenEntrySaid k (ok v) = saidCase 11 k v 0 0
+takenEntrySaid k (ok v) = saidCase REMOVED k v 0 0
 
 -- A vacant handle's insert, or_insert and insert_entry, with the slot: the value now there.
 unfoldable pub standingSaid : ℕ → Or ℕ → Numbers
 standingSaid s (no n) = saidNo n
-standingSaid s (ok v) = saidCase 19 0 v s 0
+standingSaid s (ok v) = saidCase NOW 0 v s 0
 
 -- A byte map's insert, with the offset that a fresh key gets: fresh or replaced.
 unfoldable pub storedSaid : ℕ → Or (Spot ℕ) → Numbers
 storedSaid o (no n) = saidNo n
-storedSaid o (ok (vacant s e)) = saidSpan 9 s e o 0
-storedSaid o (ok (occupied s v e)) = saidCase 10 0 v s e
+storedSaid o (ok (vacant s e)) = saidSpan FRESH s e o 0
+storedSaid o (ok (occupied s v e)) = saidCase REPLACED 0 v s e
 
 -- A byte set's insert, with the offset that a fresh key gets: fresh or already there.
 unfoldable pub joinedSaid : {W : Type 0} → ℕ → Or (Spot W) → Numbers
 joinedSaid o (no n) = saidNo n
-joinedSaid o (ok (vacant s e)) = saidSpan 9 s e o 0
-joinedSaid o (ok (occupied s v e)) = saidCase 10 0 0 s e
+joinedSaid o (ok (vacant s e)) = saidSpan FRESH s e o 0
+joinedSaid o (ok (occupied s v e)) = saidCase REPLACED 0 0 s e
 
 -- A byte set's get, by the offset and the length of each slot: the stored key's span, or absent.
 unfoldable pub spannedSaid : {W : Type 0} → (ℕ → ℕ) → (ℕ → ℕ) → Or (Seen W) → Numbers
 spannedSaid offset length (no n) = saidNo n
-spannedSaid offset length (ok (found v s e)) = saidSpan 6 s e (offset s) (length s)
-spannedSaid offset length (ok (absent e)) = saidCase 8 0 0 0 e
+spannedSaid offset length (ok (found v s e)) = saidSpan FOUND s e (offset s) (length s)
+spannedSaid offset length (ok (absent e)) = saidCase ABSENT 0 0 0 e
 
 -- A byte map hands out the key's offset and length, and the value; the pair's slot is the one before the walk.
 abbrev pub spanHanded : {K : Type 0} → (ℕ → ℕ) → (ℕ → ℕ) → K → ℕ → ℕ → ℕ → Numbers

@@ -31,6 +31,45 @@ pub struct Numbers {
     pub length: u64,
 }
 
+// The cases of an answer, by the words of the C header.
+pub const DONE: u64 = 1;
+
+pub const COUNT: u64 = 2;
+
+pub const EMPTY: u64 = 3;
+
+pub const HOLDS: u64 = 4;
+
+pub const ROOM: u64 = 5;
+
+pub const FOUND: u64 = 6;
+
+pub const PRESENT: u64 = 7;
+
+pub const ABSENT: u64 = 8;
+
+pub const FRESH: u64 = 9;
+
+pub const REPLACED: u64 = 10;
+
+pub const REMOVED: u64 = 11;
+
+pub const OCCUPIED: u64 = 12;
+
+pub const VACANT: u64 = 13;
+
+pub const PAIR: u64 = 14;
+
+pub const NOTHING: u64 = 15;
+
+pub const WALK_DONE: u64 = 16;
+
+pub const VALUE: u64 = 17;
+
+pub const WAS: u64 = 18;
+
+pub const NOW: u64 = 19;
+
 // What is added to a refusal's number where C is handed one word.
 const REFUSED: u64 = 65536;
 
@@ -244,7 +283,7 @@ pub fn span_walk_numbers(
 {
     Numbers {
         refusal: 0,
-        case: 14,
+        case: PAIR,
         key: 0,
         value,
         slot: 0,
@@ -260,7 +299,7 @@ pub fn outcome_numbers(a: Outcome) -> Numbers
     ensures { λ n. ⌜ n ≡ outcomeNumbers a ⌝ }
 {
     match a {
-        Outcome::Done => case_numbers(1, 0, 0, 0, 0),
+        Outcome::Done => case_numbers(DONE, 0, 0, 0, 0),
         Outcome::Refused(r) => refusal_numbers(r),
     }
 }
@@ -270,7 +309,7 @@ pub fn counted_numbers(a: Counted) -> Numbers
     ensures { λ n. ⌜ n ≡ countedNumbers a ⌝ }
 {
     match a {
-        Counted::Count(n) => case_numbers(2, 0, n as u64, 0, 0),
+        Counted::Count(n) => case_numbers(COUNT, 0, n as u64, 0, 0),
         Counted::Refused(r) => refusal_numbers(r),
     }
 }
@@ -280,8 +319,8 @@ pub fn emptiness_numbers(a: Emptiness) -> Numbers
     ensures { λ n. ⌜ n ≡ emptinessNumbers a ⌝ }
 {
     match a {
-        Emptiness::Empty => case_numbers(3, 0, 0, 0, 0),
-        Emptiness::Holds => case_numbers(4, 0, 0, 0, 0),
+        Emptiness::Empty => case_numbers(EMPTY, 0, 0, 0, 0),
+        Emptiness::Holds => case_numbers(HOLDS, 0, 0, 0, 0),
         Emptiness::Refused(r) => refusal_numbers(r),
     }
 }
@@ -291,7 +330,7 @@ pub fn reserved_numbers(a: Reserved) -> Numbers
     ensures { λ n. ⌜ n ≡ reservedNumbers a ⌝ }
 {
     match a {
-        Reserved::Room => case_numbers(5, 0, 0, 0, 0),
+        Reserved::Room => case_numbers(ROOM, 0, 0, 0, 0),
         Reserved::Refused(r) => refusal_numbers(r),
     }
 }
@@ -301,8 +340,8 @@ pub fn got_numbers(a: Got) -> Numbers
     ensures { λ n. ⌜ n ≡ gotNumbers a ⌝ }
 {
     match a {
-        Got::Found(value, slot, examined) => case_numbers(6, 0, value, slot, examined),
-        Got::Absent(examined) => case_numbers(8, 0, 0, 0, examined),
+        Got::Found(value, slot, examined) => case_numbers(FOUND, 0, value, slot, examined),
+        Got::Absent(examined) => case_numbers(ABSENT, 0, 0, 0, examined),
         Got::Refused(r) => refusal_numbers(r),
     }
 }
@@ -312,8 +351,8 @@ pub fn member_numbers(a: Member) -> Numbers
     ensures { λ n. ⌜ n ≡ memberNumbers a ⌝ }
 {
     match a {
-        Member::Found(key, slot, examined) => case_numbers(6, key, 0, slot, examined),
-        Member::Absent(examined) => case_numbers(8, 0, 0, 0, examined),
+        Member::Found(key, slot, examined) => case_numbers(FOUND, key, 0, slot, examined),
+        Member::Absent(examined) => case_numbers(ABSENT, 0, 0, 0, examined),
         Member::Refused(r) => refusal_numbers(r),
     }
 }
@@ -323,8 +362,8 @@ pub fn contained_numbers(a: Contained) -> Numbers
     ensures { λ n. ⌜ n ≡ containedNumbers a ⌝ }
 {
     match a {
-        Contained::Present(examined) => case_numbers(7, 0, 0, 0, examined),
-        Contained::Absent(examined) => case_numbers(8, 0, 0, 0, examined),
+        Contained::Present(examined) => case_numbers(PRESENT, 0, 0, 0, examined),
+        Contained::Absent(examined) => case_numbers(ABSENT, 0, 0, 0, examined),
         Contained::Refused(r) => refusal_numbers(r),
     }
 }
@@ -334,8 +373,8 @@ pub fn inserted_numbers(a: Inserted) -> Numbers
     ensures { λ n. ⌜ n ≡ insertedNumbers a ⌝ }
 {
     match a {
-        Inserted::Fresh(slot, examined) => case_numbers(9, 0, 0, slot, examined),
-        Inserted::Replaced(old, slot, examined) => case_numbers(10, 0, old, slot, examined),
+        Inserted::Fresh(slot, examined) => case_numbers(FRESH, 0, 0, slot, examined),
+        Inserted::Replaced(old, slot, examined) => case_numbers(REPLACED, 0, old, slot, examined),
         Inserted::Refused(r) => refusal_numbers(r),
     }
 }
@@ -345,8 +384,8 @@ pub fn added_numbers(a: Added) -> Numbers
     ensures { λ n. ⌜ n ≡ addedNumbers a ⌝ }
 {
     match a {
-        Added::Fresh(slot, examined) => case_numbers(9, 0, 0, slot, examined),
-        Added::Already(slot, examined) => case_numbers(10, 0, 0, slot, examined),
+        Added::Fresh(slot, examined) => case_numbers(FRESH, 0, 0, slot, examined),
+        Added::Already(slot, examined) => case_numbers(REPLACED, 0, 0, slot, examined),
         Added::Refused(r) => refusal_numbers(r),
     }
 }
@@ -356,8 +395,8 @@ pub fn removed_numbers(a: Removed) -> Numbers
     ensures { λ n. ⌜ n ≡ removedNumbers a ⌝ }
 {
     match a {
-        Removed::Removed(old, slot, examined) => case_numbers(11, 0, old, slot, examined),
-        Removed::Absent(examined) => case_numbers(8, 0, 0, 0, examined),
+        Removed::Removed(old, slot, examined) => case_numbers(REMOVED, 0, old, slot, examined),
+        Removed::Absent(examined) => case_numbers(ABSENT, 0, 0, 0, examined),
         Removed::Refused(r) => refusal_numbers(r),
     }
 }
@@ -367,8 +406,8 @@ pub fn dropped_numbers(a: Dropped) -> Numbers
     ensures { λ n. ⌜ n ≡ droppedNumbers a ⌝ }
 {
     match a {
-        Dropped::Removed(slot, examined) => case_numbers(11, 0, 0, slot, examined),
-        Dropped::Absent(examined) => case_numbers(8, 0, 0, 0, examined),
+        Dropped::Removed(slot, examined) => case_numbers(REMOVED, 0, 0, slot, examined),
+        Dropped::Absent(examined) => case_numbers(ABSENT, 0, 0, 0, examined),
         Dropped::Refused(r) => refusal_numbers(r),
     }
 }
@@ -378,8 +417,8 @@ pub fn stored_numbers(a: Stored) -> Numbers
     ensures { λ n. ⌜ n ≡ storedNumbers a ⌝ }
 {
     match a {
-        Stored::Fresh(slot, offset, examined) => span_numbers(9, slot, examined, offset, 0),
-        Stored::Replaced(old, slot, examined) => case_numbers(10, 0, old, slot, examined),
+        Stored::Fresh(slot, offset, examined) => span_numbers(FRESH, slot, examined, offset, 0),
+        Stored::Replaced(old, slot, examined) => case_numbers(REPLACED, 0, old, slot, examined),
         Stored::Refused(r) => refusal_numbers(r),
     }
 }
@@ -389,8 +428,8 @@ pub fn joined_numbers(a: Joined) -> Numbers
     ensures { λ n. ⌜ n ≡ joinedNumbers a ⌝ }
 {
     match a {
-        Joined::Fresh(slot, offset, examined) => span_numbers(9, slot, examined, offset, 0),
-        Joined::Already(slot, examined) => case_numbers(10, 0, 0, slot, examined),
+        Joined::Fresh(slot, offset, examined) => span_numbers(FRESH, slot, examined, offset, 0),
+        Joined::Already(slot, examined) => case_numbers(REPLACED, 0, 0, slot, examined),
         Joined::Refused(r) => refusal_numbers(r),
     }
 }
@@ -401,13 +440,13 @@ pub fn spanned_numbers(a: Spanned) -> Numbers
 {
     match a {
         Spanned::Found(offset, length, slot, examined) => span_numbers(
-            6,
+            FOUND,
             slot,
             examined,
             offset,
             length,
         ),
-        Spanned::Absent(examined) => case_numbers(8, 0, 0, 0, examined),
+        Spanned::Absent(examined) => case_numbers(ABSENT, 0, 0, 0, examined),
         Spanned::Refused(r) => refusal_numbers(r),
     }
 }

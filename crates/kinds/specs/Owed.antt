@@ -11,6 +11,7 @@ use Rattle.model.specs.Finite.{Finite, contains, mass}
 use Rattle.model.specs.Store.{Store, slotAt, pathLength}
 use Rattle.model.specs.Calls.{Handle, on-occupied, on-vacant, ruined}
 use Rattle.model.specs.Demand2.{grown, grips}
+use Rattle.answers.specs.Cases.{PAIR, NOTHING, WALK-DONE, NOW}
 use Rattle.answers.specs.declared.Numbers.{Numbers}
 
 -- A refusal: its number, zeros elsewhere, and a walk as it came.
@@ -39,7 +40,7 @@ spanning c s e o l = record { refusal = 0; case = c; key = 0; value = 0; slot = 
 
 -- Case 14, a pair that a step hands out: its key and value, or the part of the arena that is its key, with the walk moved on and the examined number.
 abbrev pub handing : ℕ → ℕ → ℕ → ℕ → ℕ → ℕ → Numbers
-handing k v o l walk e = record { refusal = 0; case = 14; key = k; value = v; slot = 0; examined = e; walk = walk; offset = o; length = l }
+handing k v o l walk e = record { refusal = 0; case = PAIR; key = k; value = v; slot = 0; examined = e; walk = walk; offset = o; length = l }
 
 -- A case of a walk moved on, with the examined number: 15 nothing, 16 done.
 abbrev pub moving : ℕ → ℕ → ℕ → Numbers
@@ -109,17 +110,17 @@ module _ {K W : Type 0} (M : Store K W) (m : M .State) where
     pub data Paces (hand : K → W → ℕ → ℕ → ℕ → Numbers) (a b : ℕ) (n : Numbers) : Type 0 where
       no-budget : b ≡ 0 → n ≡ refusing 3 a → Paces hand a b n
       beyond : 0 < b → M .size m < a → n ≡ refusing 4 a → Paces hand a b n
-      ended : 0 < b → a ≡ M .size m → n ≡ moving 16 a 0 → Paces hand a b n
+      ended : 0 < b → a ≡ M .size m → n ≡ moving WALK-DONE a 0 → Paces hand a b n
       hands : (j : ℕ) (k : K) (v : W) → a ≤ j → j < M .size m → j < a + b → M .slots m j ≡ live k v → f .look k ≡ some v → ((i : ℕ) (c : K) (u : W) → a ≤ i → i < j → M .slots m i ≡ live c u → ⊥) → n ≡ hand k v j (suc j) (suc j - a) → Paces hand a b n
-      passes : (x : ℕ) → a < x → x ≡ min (a + b) (M .size m) → ((i : ℕ) (c : K) (u : W) → a ≤ i → i < x → M .slots m i ≡ live c u → ⊥) → n ≡ moving 15 x (x - a) → Paces hand a b n
+      passes : (x : ℕ) → a < x → x ≡ min (a + b) (M .size m) → ((i : ℕ) (c : K) (u : W) → a ≤ i → i < x → M .slots m i ≡ live c u → ⊥) → n ≡ moving NOTHING x (x - a) → Paces hand a b n
 
 module _ {K : Type 0} (M : Store K ℕ) (m : M .State) (f : Finite K ℕ) where
   -- or_insert keeps a present value, and answers the value that is now in the slot.
   unfoldable pub keeping : Handle → K → ℕ → Numbers
-  keeping (on-occupied i) k v = gripping M m f i k (λ u. handling 19 0 u i)
-  keeping (on-vacant i) k v = opening M m f i k (handling 19 0 v i)
+  keeping (on-occupied i) k v = gripping M m f i k (λ u. handling NOW 0 u i)
+  keeping (on-vacant i) k v = opening M m f i k (handling NOW 0 v i)
 
   -- insert_entry replaces it.
   unfoldable pub replacing : Handle → K → ℕ → Numbers
-  replacing (on-occupied i) k v = gripping M m f i k (λ u. handling 19 0 v i)
-  replacing (on-vacant i) k v = opening M m f i k (handling 19 0 v i)
+  replacing (on-occupied i) k v = gripping M m f i k (λ u. handling NOW 0 v i)
+  replacing (on-vacant i) k v = opening M m f i k (handling NOW 0 v i)

@@ -16,6 +16,7 @@ use Rattle.model.specs.Demand1.{refusal}
 use Rattle.model.specs.Demand2.{next, keyOf, Book}
 use Rattle.model.specs.Demand3.{Machine}
 use Rattle.model.specs.Tables.{sweeps}
+use Rattle.answers.specs.Cases.{PAIR, NOTHING}
 use Rattle.answers.specs.declared.Numbers.{Numbers}
 use Rattle.kinds.specs.Told.{Told, told}
 use Rattle.kinds.specs.Owed.{refusing}
@@ -38,8 +39,8 @@ pub record Published {K W : Type 0} (M : Store K W) : Type 1 where
 unfoldable pub heardAs : {K W : Type 0} → (Numbers → K) → (Numbers → W) → Numbers → Or (Paced K W)
 heardAs key value n =
     cond (eqb (n .refusal) 0)
-    (cond (eqb (n .case) 14) (ok (pair (key n) (value n) (n .walk) (n .examined)))
-    (cond (eqb (n .case) 15) (ok (nothing (n .walk) (n .examined))) (ok (done (n .walk)))))
+    (cond (eqb (n .case) PAIR) (ok (pair (key n) (value n) (n .walk) (n .examined)))
+    (cond (eqb (n .case) NOTHING) (ok (nothing (n .walk) (n .examined))) (ok (done (n .walk)))))
     (no (n .refusal))
 
 -- The key that a lookup asks for.

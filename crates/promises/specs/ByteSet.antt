@@ -13,6 +13,7 @@ use Rattle.model.specs.Finite
 use Rattle.model.specs.Calls.{Or}
 use Rattle.model.specs.Walk.{Paced}
 use Rattle.model.specs.Demand2.{Book}
+use Rattle.answers.specs.Cases.{DONE, COUNT, EMPTY, HOLDS, ROOM, FOUND, PRESENT, ABSENT, FRESH, REPLACED, REMOVED, PAIR}
 use Rattle.answers.specs.declared.Numbers.{Numbers}
 use Rattle.kinds.specs.Columns.{nothing}
 use Rattle.kinds.specs.Told.{Told, told}
@@ -78,17 +79,17 @@ keyTold m k v slot walk e = handing 0 0 (offsetAt (m .spans) slot) (lengthAt (m 
 
 -- The numbers n that a call on the table x tells, where its set is f.
 abbrev pub Owes : Book sets → ℕ → Finite (List ℕ) (Unit {0}) → Call → Numbers → Type 0
-Owes s x f make n = n ≡ only 1
-Owes s x f clear n = n ≡ only 1
-Owes s x f capacity n = n ≡ counting 2 (sets .size (s .world x))
-Owes s x f len n = n ≡ counting 2 (Finite.len f)
-Owes s x f is-empty n = n ≡ cond (eqb (Finite.len f) 0) (only 3) (only 4)
-Owes s x f (reserve a) n = n ≡ cond (leb a (sets .size (s .world x) - Finite.len f)) (only 5) (refusing 7 0)
-Owes s x f (copy y) n = n ≡ copying sets (s .world x) (s .world y) (only 1)
-Owes s x f (get k) n = n ≡ looking sets (s .world x) f k (λ v i e. spanning 6 i e (offsetAt (s .world x .spans) i) (lengthAt (s .world x .spans) i)) (λ e. standing 8 0 0 e)
-Owes s x f (contains k) n = n ≡ looking sets (s .world x) f k (λ v i e. standing 7 0 0 e) (λ e. standing 8 0 0 e)
-Owes s x f (insert k) n = n ≡ placing sets (s .world x) f k (λ u i e. standing 10 0 i e) (λ i e. spanning 9 i e (mass length (f .dom)) 0)
-Owes s x f (remove k) n = n ≡ looking sets (s .world x) f k (λ v i e. standing 11 0 i e) (λ e. standing 8 0 0 e)
+Owes s x f make n = n ≡ only DONE
+Owes s x f clear n = n ≡ only DONE
+Owes s x f capacity n = n ≡ counting COUNT (sets .size (s .world x))
+Owes s x f len n = n ≡ counting COUNT (Finite.len f)
+Owes s x f is-empty n = n ≡ cond (eqb (Finite.len f) 0) (only EMPTY) (only HOLDS)
+Owes s x f (reserve a) n = n ≡ cond (leb a (sets .size (s .world x) - Finite.len f)) (only ROOM) (refusing 7 0)
+Owes s x f (copy y) n = n ≡ copying sets (s .world x) (s .world y) (only DONE)
+Owes s x f (get k) n = n ≡ looking sets (s .world x) f k (λ v i e. spanning FOUND i e (offsetAt (s .world x .spans) i) (lengthAt (s .world x .spans) i)) (λ e. standing ABSENT 0 0 e)
+Owes s x f (contains k) n = n ≡ looking sets (s .world x) f k (λ v i e. standing PRESENT 0 0 e) (λ e. standing ABSENT 0 0 e)
+Owes s x f (insert k) n = n ≡ placing sets (s .world x) f k (λ u i e. standing REPLACED 0 i e) (λ i e. spanning FRESH i e (mass length (f .dom)) 0)
+Owes s x f (remove k) n = n ≡ looking sets (s .world x) f k (λ v i e. standing REMOVED 0 i e) (λ e. standing ABSENT 0 0 e)
 Owes s x f (step a b) n = Paces sets (s .world x) f (keyTold (s .world x)) a b n
 
 -- Where a call tells where a key stands, that part of the arena after the call is the key: of a step, the key of the slot behind the walk. A fresh key has the length that the caller gave.
@@ -100,11 +101,11 @@ Stands w x len t = Unit {0}
 Stands w x is-empty t = Unit {0}
 Stands w x (reserve n) t = Unit {0}
 Stands w x (copy y) t = Unit {0}
-Stands w x (get k) t = t .numbers .case ≡ 6 → part (t .memory .spans .arena) (t .numbers .offset) (t .numbers .length) ≡ k
+Stands w x (get k) t = t .numbers .case ≡ FOUND → part (t .memory .spans .arena) (t .numbers .offset) (t .numbers .length) ≡ k
 Stands w x (contains k) t = Unit {0}
-Stands w x (insert k) t = t .numbers .case ≡ 9 → part (t .memory .spans .arena) (t .numbers .offset) (length k) ≡ k
+Stands w x (insert k) t = t .numbers .case ≡ FRESH → part (t .memory .spans .arena) (t .numbers .offset) (length k) ≡ k
 Stands w x (remove k) t = Unit {0}
-Stands w x (step a b) t = t .numbers .case ≡ 14 → sets .slots (w x) (t .numbers .walk - 1) ≡ live (part (t .memory .spans .arena) (t .numbers .offset) (t .numbers .length)) tt
+Stands w x (step a b) t = t .numbers .case ≡ PAIR → sets .slots (w x) (t .numbers .walk - 1) ≡ live (part (t .memory .spans .arena) (t .numbers .offset) (t .numbers .length)) tt
 
 -- What a call owes where the set of its table is known.
 abbrev pub owed : Duty sets published

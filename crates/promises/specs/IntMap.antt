@@ -16,6 +16,7 @@ use Rattle.model.specs.Finite
 use Rattle.model.specs.Calls.{Or}
 use Rattle.model.specs.Walk.{Paced}
 use Rattle.model.specs.Demand2.{Book}
+use Rattle.answers.specs.Cases.{DONE, COUNT, EMPTY, HOLDS, ROOM, FOUND, PRESENT, ABSENT, FRESH, REPLACED, REMOVED, OCCUPIED, VACANT, VALUE, WAS, NOW}
 use Rattle.answers.specs.declared.Numbers.{Numbers}
 use Rattle.kinds.specs.Moved.{movedOn}
 use Rattle.int_slots.specs.Memory.{Cells}
@@ -101,25 +102,25 @@ pairTold k v slot walk e = handing k v 0 0 walk e
 
 -- The numbers n that a call on the table x tells, where its map is f.
 abbrev pub Owes : Book maps → ℕ → Finite ℕ ℕ → Call → Numbers → Type 0
-Owes s x f make n = n ≡ only 1
-Owes s x f clear n = n ≡ only 1
-Owes s x f capacity n = n ≡ counting 2 (maps .size (s .world x))
-Owes s x f len n = n ≡ counting 2 (Finite.len f)
-Owes s x f is-empty n = n ≡ cond (eqb (Finite.len f) 0) (only 3) (only 4)
-Owes s x f (reserve a) n = n ≡ cond (leb a (maps .size (s .world x) - Finite.len f)) (only 5) (refusing 7 0)
-Owes s x f (get k) n = n ≡ looking maps (s .world x) f k (λ v i e. standing 6 v i e) (λ e. standing 8 0 0 e)
-Owes s x f (contains-key k) n = n ≡ looking maps (s .world x) f k (λ v i e. standing 7 0 0 e) (λ e. standing 8 0 0 e)
-Owes s x f (remove k) n = n ≡ looking maps (s .world x) f k (λ v i e. standing 11 v i e) (λ e. standing 8 0 0 e)
-Owes s x f (entry k) n = n ≡ placing maps (s .world x) f k (λ v i e. standing 12 v i e) (λ i e. standing 13 0 i e)
-Owes s x f (copy y) n = n ≡ copying maps (s .world x) (s .world y) (only 1)
-Owes s x f (union-prefer-right y) n = (n ≡ joining maps (s .world x) f (s .world y) (only 1)) × ((g : Finite ℕ ℕ) → s .maps y ≡ some g → n ≡ admitting maps (s .world x) (Finite.union-prefer-right f g .dom) (only 1))
-Owes s x f (insert k v) n = n ≡ placing maps (s .world x) f k (λ u i e. standing 10 u i e) (λ i e. standing 9 0 i e)
-Owes s x f (occupied-get i k) n = n ≡ gripping maps (s .world x) f i k (λ v. handling 17 0 v i)
-Owes s x f (occupied-remove i k) n = n ≡ gripping maps (s .world x) f i k (λ v. handling 11 0 v 0)
-Owes s x f (occupied-remove-entry i k) n = n ≡ gripping maps (s .world x) f i k (λ v. handling 11 k v 0)
+Owes s x f make n = n ≡ only DONE
+Owes s x f clear n = n ≡ only DONE
+Owes s x f capacity n = n ≡ counting COUNT (maps .size (s .world x))
+Owes s x f len n = n ≡ counting COUNT (Finite.len f)
+Owes s x f is-empty n = n ≡ cond (eqb (Finite.len f) 0) (only EMPTY) (only HOLDS)
+Owes s x f (reserve a) n = n ≡ cond (leb a (maps .size (s .world x) - Finite.len f)) (only ROOM) (refusing 7 0)
+Owes s x f (get k) n = n ≡ looking maps (s .world x) f k (λ v i e. standing FOUND v i e) (λ e. standing ABSENT 0 0 e)
+Owes s x f (contains-key k) n = n ≡ looking maps (s .world x) f k (λ v i e. standing PRESENT 0 0 e) (λ e. standing ABSENT 0 0 e)
+Owes s x f (remove k) n = n ≡ looking maps (s .world x) f k (λ v i e. standing REMOVED v i e) (λ e. standing ABSENT 0 0 e)
+Owes s x f (entry k) n = n ≡ placing maps (s .world x) f k (λ v i e. standing OCCUPIED v i e) (λ i e. standing VACANT 0 i e)
+Owes s x f (copy y) n = n ≡ copying maps (s .world x) (s .world y) (only DONE)
+Owes s x f (union-prefer-right y) n = (n ≡ joining maps (s .world x) f (s .world y) (only DONE)) × ((g : Finite ℕ ℕ) → s .maps y ≡ some g → n ≡ admitting maps (s .world x) (Finite.union-prefer-right f g .dom) (only DONE))
+Owes s x f (insert k v) n = n ≡ placing maps (s .world x) f k (λ u i e. standing REPLACED u i e) (λ i e. standing FRESH 0 i e)
+Owes s x f (occupied-get i k) n = n ≡ gripping maps (s .world x) f i k (λ v. handling VALUE 0 v i)
+Owes s x f (occupied-remove i k) n = n ≡ gripping maps (s .world x) f i k (λ v. handling REMOVED 0 v 0)
+Owes s x f (occupied-remove-entry i k) n = n ≡ gripping maps (s .world x) f i k (λ v. handling REMOVED k v 0)
 Owes s x f (step a b) n = Paces maps (s .world x) f pairTold a b n
-Owes s x f (occupied-set i k v) n = n ≡ gripping maps (s .world x) f i k (λ u. handling 18 0 u i)
-Owes s x f (vacant-insert i k v) n = n ≡ opening maps (s .world x) f i k (handling 19 0 v i)
+Owes s x f (occupied-set i k v) n = n ≡ gripping maps (s .world x) f i k (λ u. handling WAS 0 u i)
+Owes s x f (vacant-insert i k v) n = n ≡ opening maps (s .world x) f i k (handling NOW 0 v i)
 Owes s x f (or-insert h k v) n = n ≡ keeping maps (s .world x) f (handleOf (length (s .world x .marks)) h) k v
 Owes s x f (insert-entry h k v) n = n ≡ replacing maps (s .world x) f (handleOf (length (s .world x .marks)) h) k v
 

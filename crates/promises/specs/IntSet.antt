@@ -10,6 +10,7 @@ use Rattle.model.specs.Finite
 use Rattle.model.specs.Calls.{Or}
 use Rattle.model.specs.Walk.{Paced}
 use Rattle.model.specs.Demand2.{Book}
+use Rattle.answers.specs.Cases.{DONE, COUNT, EMPTY, HOLDS, ROOM, FOUND, PRESENT, ABSENT, FRESH, REPLACED, REMOVED}
 use Rattle.answers.specs.declared.Numbers.{Numbers}
 use Rattle.kinds.specs.Columns.{nothing}
 use Rattle.kinds.specs.Told.{Told, told}
@@ -81,17 +82,17 @@ keyTold k v slot walk e = handing k 0 0 0 walk e
 
 -- The numbers n that a call on the table x tells, where its set is f.
 abbrev pub Owes : Book sets → ℕ → Finite ℕ (Unit {0}) → Call → Numbers → Type 0
-Owes s x f make n = n ≡ only 1
-Owes s x f clear n = n ≡ only 1
-Owes s x f capacity n = n ≡ counting 2 (sets .size (s .world x))
-Owes s x f len n = n ≡ counting 2 (Finite.len f)
-Owes s x f is-empty n = n ≡ cond (eqb (Finite.len f) 0) (only 3) (only 4)
-Owes s x f (reserve a) n = n ≡ cond (leb a (sets .size (s .world x) - Finite.len f)) (only 5) (refusing 7 0)
-Owes s x f (copy y) n = n ≡ copying sets (s .world x) (s .world y) (only 1)
-Owes s x f (get k) n = n ≡ looking sets (s .world x) f k (λ v i e. memberTold 6 k i e) (λ e. standing 8 0 0 e)
-Owes s x f (contains k) n = n ≡ looking sets (s .world x) f k (λ v i e. standing 7 0 0 e) (λ e. standing 8 0 0 e)
-Owes s x f (insert k) n = n ≡ placing sets (s .world x) f k (λ u i e. standing 10 0 i e) (λ i e. standing 9 0 i e)
-Owes s x f (remove k) n = n ≡ looking sets (s .world x) f k (λ v i e. standing 11 0 i e) (λ e. standing 8 0 0 e)
+Owes s x f make n = n ≡ only DONE
+Owes s x f clear n = n ≡ only DONE
+Owes s x f capacity n = n ≡ counting COUNT (sets .size (s .world x))
+Owes s x f len n = n ≡ counting COUNT (Finite.len f)
+Owes s x f is-empty n = n ≡ cond (eqb (Finite.len f) 0) (only EMPTY) (only HOLDS)
+Owes s x f (reserve a) n = n ≡ cond (leb a (sets .size (s .world x) - Finite.len f)) (only ROOM) (refusing 7 0)
+Owes s x f (copy y) n = n ≡ copying sets (s .world x) (s .world y) (only DONE)
+Owes s x f (get k) n = n ≡ looking sets (s .world x) f k (λ v i e. memberTold FOUND k i e) (λ e. standing ABSENT 0 0 e)
+Owes s x f (contains k) n = n ≡ looking sets (s .world x) f k (λ v i e. standing PRESENT 0 0 e) (λ e. standing ABSENT 0 0 e)
+Owes s x f (insert k) n = n ≡ placing sets (s .world x) f k (λ u i e. standing REPLACED 0 i e) (λ i e. standing FRESH 0 i e)
+Owes s x f (remove k) n = n ≡ looking sets (s .world x) f k (λ v i e. standing REMOVED 0 i e) (λ e. standing ABSENT 0 0 e)
 Owes s x f (step a b) n = Paces sets (s .world x) f keyTold a b n
 
 -- What a call owes where the set of its table is known.
