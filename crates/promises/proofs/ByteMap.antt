@@ -46,6 +46,7 @@ use Rattle.byte_slots.proofs.Places.{strings-steady, strings-apart}
 use Rattle.byte_map_entry.specs.Calls.{handleOf}
 use Rattle.promises.proofs.Spans.{handed-slot, fresh-bytes, used-told}
 use Rattle.promises.specs.ByteMap.{Call, make, clear, capacity, len, is-empty, reserve, get, contains-key, remove, entry, copy, union-prefer-right, insert, occupied-get, occupied-remove, occupied-remove-entry, step, occupied-set, vacant-insert, or-insert, insert-entry, told-by, meant, published, pairTold, Owes, heard, lent-by, owed, Stands}
+use Rattle.promises.specs.MapAlphabet.{mapMeant}
 
 -- Byte maps are a lawful store.
 pub maps-lawful : Lawful maps
@@ -53,7 +54,7 @@ maps-lawful = strings-lawful values values-orderly
 
 -- Each published call tells the refusal of the theory's call.
 number-told : (w : World maps) (x : ℕ) (c : Call) → told-by w x c .numbers .refusal ≡ refusal (answer maps w x (meant w x c))
-unfolding told-by meant answer tells left leaves makeOf capacityOf lenOf isEmptyOf reserveOf containsOf copyOf getOf removeOf unionOf entryOf heldOf setOf takenOf standingOf orInsertOf insertEntryOf insertOf stepOf refusal
+unfolding told-by meant mapMeant answer tells left leaves makeOf capacityOf lenOf isEmptyOf reserveOf containsOf copyOf getOf removeOf unionOf entryOf heldOf setOf takenOf standingOf orInsertOf insertEntryOf insertOf stepOf refusal
 number-told w x make = doneSaid-refusal _ ∙ sym (reported (λ n. fine) (λ a. refl) _)
 number-told w x clear = doneSaid-refusal _ ∙ sym (reported (λ n. fine) (λ a. refl) _)
 number-told w x capacity = countSaid-refusal _ ∙ sym (reported number (λ a. refl) _)
@@ -78,7 +79,7 @@ number-told w x (insert-entry e k v) = standingSaid-refusal _ _ ∙ sym (reporte
 
 -- And leaves its memory.
 memory-told : (w : World maps) (x : ℕ) (c : Call) → told-by w x c .memory ≡ left maps w x (meant w x c)
-unfolding told-by meant answer tells left leaves makeOf capacityOf lenOf isEmptyOf reserveOf containsOf copyOf getOf removeOf unionOf entryOf heldOf setOf takenOf standingOf orInsertOf insertEntryOf insertOf stepOf
+unfolding told-by meant mapMeant answer tells left leaves makeOf capacityOf lenOf isEmptyOf reserveOf containsOf copyOf getOf removeOf unionOf entryOf heldOf setOf takenOf standingOf orInsertOf insertEntryOf insertOf stepOf
 memory-told w x make = refl
 memory-told w x clear = refl
 memory-told w x capacity = refl
@@ -189,7 +190,7 @@ demand-1-named w x c p e = named-only maps published maps-linked (strings-steady
 
 -- A refused call tells its number, zeros elsewhere, and the walk as it came.
 refused-zeros : (w : World maps) (x : ℕ) (c : Call) → (told-by w x c .numbers .refusal ≡ 0 → ⊥) → told-by w x c .numbers ≡ refusing (told-by w x c .numbers .refusal) (given (meant w x c))
-unfolding told-by meant given makeOf capacityOf lenOf isEmptyOf reserveOf getOf containsOf insertOf removeOf copyOf unionOf stepOf entryOf setOf orInsertOf insertEntryOf heldOf takenOf standingOf doneSaid countSaid emptySaid roomSaid gotSaid containedSaid removedSaid enteredSaid storedSaid heldSaid swappedSaid takenSaid standingSaid stepSaid numberIn
+unfolding told-by meant mapMeant given makeOf capacityOf lenOf isEmptyOf reserveOf getOf containsOf insertOf removeOf copyOf unionOf stepOf entryOf setOf orInsertOf insertEntryOf heldOf takenOf standingOf doneSaid countSaid emptySaid roomSaid gotSaid containedSaid removedSaid enteredSaid storedSaid heldSaid swappedSaid takenSaid standingSaid stepSaid numberIn
 refused-zeros w x make h = zeros doneSaid 0 (λ n. refl) (λ y. refl) (Calls.capacity maps (w x)) h
 refused-zeros w x clear h = zeros doneSaid 0 (λ n. refl) (λ y. refl) (Calls.capacity maps (w x)) h
 refused-zeros w x capacity h = zeros countSaid 0 (λ n. refl) (λ y. refl) (Calls.capacity maps (w x)) h
@@ -214,7 +215,7 @@ refused-zeros w x (insert-entry a k v) h = zeros (standingSaid (slotOf (handleOf
 
 -- A refusal tells its number, zeros elsewhere, and the walk as it came, on any memory, lent walks included.
 pub demand-1-zeros : ZerosElsewhere maps published
-unfolding meant given
+unfolding meant mapMeant given
 demand-1-zeros = record {
   calls = refused-zeros;
   lent-steps = λ w x a b h. lent-zeros maps published maps-linked w x a b (refused-zeros w x (step a b) (λ e. h (ap (λ t. t .numbers .refusal) (steps-lent w x a b) ∙ e)));
@@ -222,7 +223,7 @@ demand-1-zeros = record {
 
 -- On any memory an accepted lookup tells its path's own examined number.
 pub demand-2-examined : PathCounted maps published
-unfolding told-by meant asked keyOf getOf containsOf insertOf removeOf entryOf gotSaid containedSaid removedSaid enteredSaid storedSaid
+unfolding told-by meant mapMeant asked keyOf getOf containsOf insertOf removeOf entryOf gotSaid containedSaid removedSaid enteredSaid storedSaid
 demand-2-examined w x make k q e = clash cc
 demand-2-examined w x clear k q e = clash cc
 demand-2-examined w x capacity k q e = clash cc
@@ -261,27 +262,10 @@ handed-bytes m a b (ok (done y)) e q = absurd (omega arith)
 
 pub demand-2-spans : (w : World maps) (x : ℕ) (c : Call) → Stands w x c (told-by w x c)
 unfolding told-by insertOf stepOf
-demand-2-spans w x make = tt
-demand-2-spans w x clear = tt
-demand-2-spans w x capacity = tt
-demand-2-spans w x len = tt
-demand-2-spans w x is-empty = tt
-demand-2-spans w x (reserve a) = tt
-demand-2-spans w x (get k) = tt
-demand-2-spans w x (contains-key k) = tt
-demand-2-spans w x (remove k) = tt
-demand-2-spans w x (entry k) = tt
-demand-2-spans w x (copy y) = tt
-demand-2-spans w x (union-prefer-right y) = tt
-demand-2-spans w x (insert k v) = stored-bytes (w x) k v (Calls.entry maps (w x) k) refl
-demand-2-spans w x (occupied-get i k) = tt
-demand-2-spans w x (occupied-remove i k) = tt
-demand-2-spans w x (occupied-remove-entry i k) = tt
-demand-2-spans w x (step a b) = handed-bytes (w x) a b (stepping maps (w x) a b) refl
-demand-2-spans w x (occupied-set i k v) = tt
-demand-2-spans w x (vacant-insert i k v) = tt
-demand-2-spans w x (or-insert h k v) = tt
-demand-2-spans w x (insert-entry h k v) = tt
+demand-2-spans w x c = (
+  (λ k v e. rw e (stored-bytes (w x) k v (Calls.entry maps (w x) k) refl)),
+  (λ a b e. rw e (handed-bytes (w x) a b (stepping maps (w x) a b) refl)),
+)
 
 -- Demand 2: any list of published calls over any number of tables, on any memory: from each table's make on its finite map is known, and every call tells what it owes.
 pub demand-2 : (cs : List (ℕ × Call)) (w : World maps) → ToldInStep maps published owed cs (unknown maps published w)
@@ -301,7 +285,7 @@ demand-3-once cs w x q k bs h e = walk-once (walkOf maps published cs w x) (afte
 
 -- What demand 2 comes to, by told numbers alone: on a known table a key of allowed length that was inserted is found with its value, one that was removed is absent.
 pub told-after-insert : (s : Book maps) → Right maps published s → (x : ℕ) (f : Finite (List ℕ) ℕ) → s .maps x ≡ some f → (k : List ℕ) (v : ℕ) → askedOf k ≡ 0 → told-by (s .world) x (insert k v) .numbers .refusal ≡ 0 → (told-by (noted maps published s x (insert k v) .world) x (get k) .numbers .case ≡ 6) × (told-by (noted maps published s x (insert k v) .world) x (get k) .numbers .value ≡ v)
-unfolding meant
+unfolding meant mapMeant
 told-after-insert s h x f e k v b r =
     let g = noted maps published s x (insert k v) in
     let run = told-in-step maps published maps-linked maps-lawful owed (λ s h x c f e. (owes-told s h x c f e, demand-2-spans (s .world) x c)) ((x, (insert k v)) ∷ (x, get k) ∷ []) s h in
@@ -310,7 +294,7 @@ told-after-insert s h x f e k v b r =
     (ap (λ n. n .case) q, ap (λ n. n .value) q)
 
 pub told-after-remove : (s : Book maps) → Right maps published s → (x : ℕ) (f : Finite (List ℕ) ℕ) → s .maps x ≡ some f → (k : List ℕ) → askedOf k ≡ 0 → told-by (s .world) x (remove k) .numbers .refusal ≡ 0 → told-by (noted maps published s x (remove k) .world) x (get k) .numbers .case ≡ 8
-unfolding meant
+unfolding meant mapMeant
 told-after-remove s h x f e k b r =
     let g = noted maps published s x (remove k) in
     let run = told-in-step maps published maps-linked maps-lawful owed (λ s h x c f e. (owes-told s h x c f e, demand-2-spans (s .world) x c)) ((x, remove k) ∷ (x, get k) ∷ []) s h in

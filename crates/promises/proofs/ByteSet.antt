@@ -45,6 +45,7 @@ use Rattle.byte_slots.proofs.Lawful.{strings-lawful}
 use Rattle.byte_slots.proofs.Places.{strings-steady, strings-apart}
 use Rattle.promises.proofs.Spans.{found-bytes, handed-slot, fresh-bytes, used-told}
 use Rattle.promises.specs.ByteSet.{Call, make, clear, capacity, len, is-empty, reserve, get, contains, insert, remove, copy, step, told-by, meant, published, keyTold, Owes, heard, lent-by, owed, Stands}
+use Rattle.promises.specs.SetAlphabet.{setMeant}
 
 -- Byte sets are a lawful store.
 pub sets-lawful : Lawful sets
@@ -52,7 +53,7 @@ sets-lawful = strings-lawful nothing nothing-orderly
 
 -- Each published call tells the refusal of the theory's call.
 number-told : (w : World sets) (x : ℕ) (c : Call) → told-by w x c .numbers .refusal ≡ refusal (answer sets w x (meant w x c))
-unfolding told-by meant answer tells left leaves makeOf capacityOf lenOf isEmptyOf reserveOf containsOf copyOf droppedOf joinOf spanOf setStepOf refusal
+unfolding told-by meant setMeant answer tells left leaves makeOf capacityOf lenOf isEmptyOf reserveOf containsOf copyOf droppedOf joinOf spanOf setStepOf refusal
 number-told w x make = doneSaid-refusal _ ∙ sym (reported (λ n. fine) (λ a. refl) _)
 number-told w x clear = doneSaid-refusal _ ∙ sym (reported (λ n. fine) (λ a. refl) _)
 number-told w x capacity = countSaid-refusal _ ∙ sym (reported number (λ a. refl) _)
@@ -68,7 +69,7 @@ number-told w x (step at budget) = stepSaid-refusal (spanOnlyHanded (offsetAt (w
 
 -- And leaves its memory.
 memory-told : (w : World sets) (x : ℕ) (c : Call) → told-by w x c .memory ≡ left sets w x (meant w x c)
-unfolding told-by meant answer tells left leaves makeOf capacityOf lenOf isEmptyOf reserveOf containsOf copyOf droppedOf joinOf spanOf setStepOf
+unfolding told-by meant setMeant answer tells left leaves makeOf capacityOf lenOf isEmptyOf reserveOf containsOf copyOf droppedOf joinOf spanOf setStepOf
 memory-told w x make = refl
 memory-told w x clear = refl
 memory-told w x capacity = refl
@@ -141,7 +142,7 @@ demand-1-named w x c p e = named-only sets published sets-linked (strings-steady
 
 -- A refused call tells its number, zeros elsewhere, and the walk as it came.
 refused-zeros : (w : World sets) (x : ℕ) (c : Call) → (told-by w x c .numbers .refusal ≡ 0 → ⊥) → told-by w x c .numbers ≡ refusing (told-by w x c .numbers .refusal) (given (meant w x c))
-unfolding told-by meant given makeOf capacityOf lenOf isEmptyOf reserveOf containsOf droppedOf copyOf joinOf spanOf setStepOf doneSaid countSaid emptySaid roomSaid containedSaid droppedSaid spannedSaid joinedSaid stepSaid numberIn
+unfolding told-by meant setMeant given makeOf capacityOf lenOf isEmptyOf reserveOf containsOf droppedOf copyOf joinOf spanOf setStepOf doneSaid countSaid emptySaid roomSaid containedSaid droppedSaid spannedSaid joinedSaid stepSaid numberIn
 refused-zeros w x make h = zeros doneSaid 0 (λ n. refl) (λ y. refl) (Calls.capacity sets (w x)) h
 refused-zeros w x clear h = zeros doneSaid 0 (λ n. refl) (λ y. refl) (Calls.capacity sets (w x)) h
 refused-zeros w x capacity h = zeros countSaid 0 (λ n. refl) (λ y. refl) (Calls.capacity sets (w x)) h
@@ -157,7 +158,7 @@ refused-zeros w x (step a b) h = zeros (stepSaid (spanOnlyHanded (offsetAt (w x 
 
 -- A refusal tells its number, zeros elsewhere, and the walk as it came, on any memory, lent walks included.
 pub demand-1-zeros : ZerosElsewhere sets published
-unfolding meant given
+unfolding meant setMeant given
 demand-1-zeros = record {
   calls = refused-zeros;
   lent-steps = λ w x a b h. lent-zeros sets published sets-linked w x a b (refused-zeros w x (step a b) (λ e. h (ap (λ t. t .numbers .refusal) (steps-lent w x a b) ∙ e)));
@@ -165,7 +166,7 @@ demand-1-zeros = record {
 
 -- On any memory an accepted lookup tells its path's own examined number.
 pub demand-2-examined : PathCounted sets published
-unfolding told-by meant asked keyOf containsOf droppedOf joinOf spanOf setStepOf containedSaid droppedSaid spannedSaid joinedSaid
+unfolding told-by meant setMeant asked keyOf containsOf droppedOf joinOf spanOf setStepOf containedSaid droppedSaid spannedSaid joinedSaid
 demand-2-examined w x make k q e = clash cc
 demand-2-examined w x clear k q e = clash cc
 demand-2-examined w x capacity k q e = clash cc
@@ -201,18 +202,11 @@ handed-bytes m a b (ok (done y)) e q = absurd (omega arith)
 
 pub demand-2-spans : (w : World sets) (x : ℕ) (c : Call) → Stands w x c (told-by w x c)
 unfolding told-by joinOf spanOf setStepOf
-demand-2-spans w x make = tt
-demand-2-spans w x clear = tt
-demand-2-spans w x capacity = tt
-demand-2-spans w x len = tt
-demand-2-spans w x is-empty = tt
-demand-2-spans w x (reserve a) = tt
-demand-2-spans w x (copy y) = tt
-demand-2-spans w x (get k) = spanned-bytes (w x) k (Calls.get sets (w x) k) refl
-demand-2-spans w x (contains k) = tt
-demand-2-spans w x (insert k) = joined-bytes (w x) k (Calls.entry sets (w x) k) refl
-demand-2-spans w x (remove k) = tt
-demand-2-spans w x (step a b) = handed-bytes (w x) a b (stepping sets (w x) a b) refl
+demand-2-spans w x c = (
+  (λ k e. rw e (spanned-bytes (w x) k (Calls.get sets (w x) k) refl)),
+  (λ k e. rw e (joined-bytes (w x) k (Calls.entry sets (w x) k) refl)),
+  (λ a b e. rw e (handed-bytes (w x) a b (stepping sets (w x) a b) refl)),
+)
 
 -- Demand 2: any list of published calls over any number of tables, on any memory: from each table's make on its finite set is known, and every call tells what it owes.
 pub demand-2 : (cs : List (ℕ × Call)) (w : World sets) → ToldInStep sets published owed cs (unknown sets published w)
@@ -232,7 +226,7 @@ demand-3-once cs w x q k bs h e = walk-once (walkOf sets published cs w x) (afte
 
 -- What demand 2 comes to, by told numbers alone: on a known table a key of allowed length that was inserted is there, one that was removed is absent.
 pub told-after-insert : (s : Book sets) → Right sets published s → (x : ℕ) (f : Finite (List ℕ) (Unit {0})) → s .maps x ≡ some f → (k : List ℕ) → askedOf k ≡ 0 → told-by (s .world) x (insert k) .numbers .refusal ≡ 0 → (told-by (noted sets published s x (insert k) .world) x (contains k) .numbers .case ≡ 7)
-unfolding meant
+unfolding meant setMeant
 told-after-insert s h x f e k b r =
     let g = noted sets published s x (insert k) in
     let run = told-in-step sets published sets-linked sets-lawful owed (λ s h x c f e. (owes-told s h x c f e, demand-2-spans (s .world) x c)) ((x, (insert k)) ∷ (x, contains k) ∷ []) s h in
@@ -241,7 +235,7 @@ told-after-insert s h x f e k b r =
     ap (λ n. n .case) q
 
 pub told-after-remove : (s : Book sets) → Right sets published s → (x : ℕ) (f : Finite (List ℕ) (Unit {0})) → s .maps x ≡ some f → (k : List ℕ) → askedOf k ≡ 0 → told-by (s .world) x (remove k) .numbers .refusal ≡ 0 → told-by (noted sets published s x (remove k) .world) x (contains k) .numbers .case ≡ 8
-unfolding meant
+unfolding meant setMeant
 told-after-remove s h x f e k b r =
     let g = noted sets published s x (remove k) in
     let run = told-in-step sets published sets-linked sets-lawful owed (λ s h x c f e. (owes-told s h x c f e, demand-2-spans (s .world) x c)) ((x, remove k) ∷ (x, contains k) ∷ []) s h in

@@ -44,6 +44,7 @@ use Rattle.int_map.specs.Calls.{insertOf}
 use Rattle.int_map_walk.specs.Calls.{stepOf}
 use Rattle.int_map_occupied.specs.Calls.{removeEntryOf}
 use Rattle.promises.specs.IntMap.{Call, make, clear, capacity, len, is-empty, reserve, get, contains-key, remove, entry, copy, union-prefer-right, insert, occupied-get, occupied-remove, occupied-remove-entry, step, occupied-set, vacant-insert, or-insert, insert-entry, told-by, meant, published, pairTold, Owes, heard, lent-by, owed}
+use Rattle.promises.specs.MapAlphabet.{mapMeant}
 
 -- Integer maps are a lawful store.
 pub maps-lawful : Lawful maps
@@ -51,7 +52,7 @@ maps-lawful = cells-lawful values values-orderly
 
 -- Each published call tells the refusal of the theory's call.
 number-told : (w : World maps) (x : ℕ) (c : Call) → told-by w x c .numbers .refusal ≡ refusal (answer maps w x (meant w x c))
-unfolding told-by meant answer tells left leaves makeOf capacityOf lenOf isEmptyOf reserveOf getOf containsOf insertOf removeOf copyOf unionOf stepOf entryOf setOf removeEntryOf orInsertOf insertEntryOf heldOf takenOf standingOf refusal
+unfolding told-by meant mapMeant answer tells left leaves makeOf capacityOf lenOf isEmptyOf reserveOf getOf containsOf insertOf removeOf copyOf unionOf stepOf entryOf setOf removeEntryOf orInsertOf insertEntryOf heldOf takenOf standingOf refusal
 number-told w x make = doneSaid-refusal _ ∙ sym (reported (λ n. fine) (λ a. refl) _)
 number-told w x clear = doneSaid-refusal _ ∙ sym (reported (λ n. fine) (λ a. refl) _)
 number-told w x capacity = countSaid-refusal _ ∙ sym (reported number (λ a. refl) _)
@@ -76,7 +77,7 @@ number-told w x (insert-entry e k v) = standingSaid-refusal _ _ ∙ sym (reporte
 
 -- And leaves its memory.
 memory-told : (w : World maps) (x : ℕ) (c : Call) → told-by w x c .memory ≡ left maps w x (meant w x c)
-unfolding told-by meant answer tells left leaves makeOf capacityOf lenOf isEmptyOf reserveOf getOf containsOf insertOf removeOf copyOf unionOf stepOf entryOf setOf removeEntryOf orInsertOf insertEntryOf heldOf takenOf standingOf
+unfolding told-by meant mapMeant answer tells left leaves makeOf capacityOf lenOf isEmptyOf reserveOf getOf containsOf insertOf removeOf copyOf unionOf stepOf entryOf setOf removeEntryOf orInsertOf insertEntryOf heldOf takenOf standingOf
 memory-told w x make = refl
 memory-told w x clear = refl
 memory-told w x capacity = refl
@@ -187,7 +188,7 @@ demand-1-named w x c p e = named-only maps published maps-linked (cells-steady v
 
 -- A refused call tells its number, zeros elsewhere, and the walk as it came.
 refused-zeros : (w : World maps) (x : ℕ) (c : Call) → (told-by w x c .numbers .refusal ≡ 0 → ⊥) → told-by w x c .numbers ≡ refusing (told-by w x c .numbers .refusal) (given (meant w x c))
-unfolding told-by meant given makeOf capacityOf lenOf isEmptyOf reserveOf getOf containsOf insertOf removeOf copyOf unionOf stepOf entryOf setOf removeEntryOf orInsertOf insertEntryOf heldOf takenOf standingOf doneSaid countSaid emptySaid roomSaid gotSaid containedSaid removedSaid enteredSaid insertedSaid heldSaid swappedSaid takenSaid takenEntrySaid standingSaid stepSaid numberIn
+unfolding told-by meant mapMeant given makeOf capacityOf lenOf isEmptyOf reserveOf getOf containsOf insertOf removeOf copyOf unionOf stepOf entryOf setOf removeEntryOf orInsertOf insertEntryOf heldOf takenOf standingOf doneSaid countSaid emptySaid roomSaid gotSaid containedSaid removedSaid enteredSaid insertedSaid heldSaid swappedSaid takenSaid takenEntrySaid standingSaid stepSaid numberIn
 refused-zeros w x make h = zeros doneSaid 0 (λ n. refl) (λ y. refl) (Calls.capacity maps (w x)) h
 refused-zeros w x clear h = zeros doneSaid 0 (λ n. refl) (λ y. refl) (Calls.capacity maps (w x)) h
 refused-zeros w x capacity h = zeros countSaid 0 (λ n. refl) (λ y. refl) (Calls.capacity maps (w x)) h
@@ -212,7 +213,7 @@ refused-zeros w x (insert-entry a k v) h = zeros (standingSaid (slotOf (handleOf
 
 -- A refusal tells its number, zeros elsewhere, and the walk as it came, on any memory, lent walks included.
 pub demand-1-zeros : ZerosElsewhere maps published
-unfolding meant given
+unfolding meant mapMeant given
 demand-1-zeros = record {
   calls = refused-zeros;
   lent-steps = λ w x a b h. lent-zeros maps published maps-linked w x a b (refused-zeros w x (step a b) (λ e. h (ap (λ t. t .numbers .refusal) (steps-lent w x a b) ∙ e)));
@@ -220,7 +221,7 @@ demand-1-zeros = record {
 
 -- On any memory an accepted lookup tells its path's own examined number.
 pub demand-2-examined : PathCounted maps published
-unfolding told-by meant asked keyOf getOf containsOf insertOf removeOf entryOf gotSaid containedSaid removedSaid enteredSaid insertedSaid
+unfolding told-by meant mapMeant asked keyOf getOf containsOf insertOf removeOf entryOf gotSaid containedSaid removedSaid enteredSaid insertedSaid
 demand-2-examined w x make k q e = clash cc
 demand-2-examined w x clear k q e = clash cc
 demand-2-examined w x capacity k q e = clash cc
@@ -261,7 +262,7 @@ demand-3-once cs w x q k bs h e = walk-once (walkOf maps published cs w x) (afte
 
 -- What demand 2 comes to, by told numbers alone: on a known table a key that was inserted is found with its value, one that was removed is absent.
 pub told-after-insert : (s : Book maps) → Right maps published s → (x : ℕ) (f : Finite ℕ ℕ) → s .maps x ≡ some f → (k : ℕ) (v : ℕ) → told-by (s .world) x (insert k v) .numbers .refusal ≡ 0 → (told-by (noted maps published s x (insert k v) .world) x (get k) .numbers .case ≡ 6) × (told-by (noted maps published s x (insert k v) .world) x (get k) .numbers .value ≡ v)
-unfolding meant
+unfolding meant mapMeant
 told-after-insert s h x f e k v r =
     let g = noted maps published s x (insert k v) in
     let run = told-in-step maps published maps-linked maps-lawful owed owes-told ((x, (insert k v)) ∷ (x, get k) ∷ []) s h in
@@ -270,7 +271,7 @@ told-after-insert s h x f e k v r =
     (ap (λ n. n .case) q, ap (λ n. n .value) q)
 
 pub told-after-remove : (s : Book maps) → Right maps published s → (x : ℕ) (f : Finite ℕ ℕ) → s .maps x ≡ some f → (k : ℕ) → told-by (s .world) x (remove k) .numbers .refusal ≡ 0 → told-by (noted maps published s x (remove k) .world) x (get k) .numbers .case ≡ 8
-unfolding meant
+unfolding meant mapMeant
 told-after-remove s h x f e k r =
     let g = noted maps published s x (remove k) in
     let run = told-in-step maps published maps-linked maps-lawful owed owes-told ((x, remove k) ∷ (x, get k) ∷ []) s h in

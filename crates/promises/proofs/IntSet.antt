@@ -43,6 +43,7 @@ use Rattle.int_set.specs.Calls.{insertOf}
 use Rattle.int_set_reads.specs.Calls.{getOf}
 use Rattle.int_set_walk.specs.Calls.{stepOf}
 use Rattle.promises.specs.IntSet.{Call, make, clear, capacity, len, is-empty, reserve, get, contains, insert, remove, copy, step, told-by, meant, published, keyTold, Owes, heard, lent-by, owed}
+use Rattle.promises.specs.SetAlphabet.{setMeant}
 
 -- Integer sets are a lawful store.
 pub sets-lawful : Lawful sets
@@ -50,7 +51,7 @@ sets-lawful = cells-lawful nothing nothing-orderly
 
 -- Each published call tells the refusal of the theory's call.
 number-told : (w : World sets) (x : ℕ) (c : Call) → told-by w x c .numbers .refusal ≡ refusal (answer sets w x (meant w x c))
-unfolding told-by meant answer tells left leaves makeOf capacityOf lenOf isEmptyOf reserveOf getOf containsOf insertOf droppedOf copyOf stepOf refusal
+unfolding told-by meant setMeant answer tells left leaves makeOf capacityOf lenOf isEmptyOf reserveOf getOf containsOf insertOf droppedOf copyOf stepOf refusal
 number-told w x make = doneSaid-refusal _ ∙ sym (reported (λ n. fine) (λ a. refl) _)
 number-told w x clear = doneSaid-refusal _ ∙ sym (reported (λ n. fine) (λ a. refl) _)
 number-told w x capacity = countSaid-refusal _ ∙ sym (reported number (λ a. refl) _)
@@ -66,7 +67,7 @@ number-told w x (step at budget) = stepSaid-refusal keyHanded (λ k v p e. refl)
 
 -- And leaves its memory.
 memory-told : (w : World sets) (x : ℕ) (c : Call) → told-by w x c .memory ≡ left sets w x (meant w x c)
-unfolding told-by meant answer tells left leaves makeOf capacityOf lenOf isEmptyOf reserveOf getOf containsOf insertOf droppedOf copyOf stepOf
+unfolding told-by meant setMeant answer tells left leaves makeOf capacityOf lenOf isEmptyOf reserveOf getOf containsOf insertOf droppedOf copyOf stepOf
 memory-told w x make = refl
 memory-told w x clear = refl
 memory-told w x capacity = refl
@@ -139,7 +140,7 @@ demand-1-named w x c p e = named-only sets published sets-linked (cells-steady n
 
 -- A refused call tells its number, zeros elsewhere, and the walk as it came.
 refused-zeros : (w : World sets) (x : ℕ) (c : Call) → (told-by w x c .numbers .refusal ≡ 0 → ⊥) → told-by w x c .numbers ≡ refusing (told-by w x c .numbers .refusal) (given (meant w x c))
-unfolding told-by meant given makeOf capacityOf lenOf isEmptyOf reserveOf containsOf droppedOf copyOf insertOf getOf stepOf doneSaid countSaid emptySaid roomSaid containedSaid droppedSaid memberSaid addedSaid stepSaid numberIn
+unfolding told-by meant setMeant given makeOf capacityOf lenOf isEmptyOf reserveOf containsOf droppedOf copyOf insertOf getOf stepOf doneSaid countSaid emptySaid roomSaid containedSaid droppedSaid memberSaid addedSaid stepSaid numberIn
 refused-zeros w x make h = zeros doneSaid 0 (λ n. refl) (λ y. refl) (Calls.capacity sets (w x)) h
 refused-zeros w x clear h = zeros doneSaid 0 (λ n. refl) (λ y. refl) (Calls.capacity sets (w x)) h
 refused-zeros w x capacity h = zeros countSaid 0 (λ n. refl) (λ y. refl) (Calls.capacity sets (w x)) h
@@ -155,7 +156,7 @@ refused-zeros w x (step a b) h = zeros (stepSaid keyHanded a) a (λ n. refl) (λ
 
 -- A refusal tells its number, zeros elsewhere, and the walk as it came, on any memory, lent walks included.
 pub demand-1-zeros : ZerosElsewhere sets published
-unfolding meant given
+unfolding meant setMeant given
 demand-1-zeros = record {
   calls = refused-zeros;
   lent-steps = λ w x a b h. lent-zeros sets published sets-linked w x a b (refused-zeros w x (step a b) (λ e. h (ap (λ t. t .numbers .refusal) (steps-lent w x a b) ∙ e)));
@@ -163,7 +164,7 @@ demand-1-zeros = record {
 
 -- On any memory an accepted lookup tells its path's own examined number.
 pub demand-2-examined : PathCounted sets published
-unfolding told-by meant asked keyOf containsOf droppedOf insertOf getOf stepOf containedSaid droppedSaid memberSaid addedSaid
+unfolding told-by meant setMeant asked keyOf containsOf droppedOf insertOf getOf stepOf containedSaid droppedSaid memberSaid addedSaid
 demand-2-examined w x make k q e = clash cc
 demand-2-examined w x clear k q e = clash cc
 demand-2-examined w x capacity k q e = clash cc
@@ -195,7 +196,7 @@ demand-3-once cs w x q k bs h e = walk-once (walkOf sets published cs w x) (afte
 
 -- What demand 2 comes to, by told numbers alone: on a known table a key that was inserted is there, one that was removed is absent.
 pub told-after-insert : (s : Book sets) → Right sets published s → (x : ℕ) (f : Finite ℕ (Unit {0})) → s .maps x ≡ some f → (k : ℕ) → told-by (s .world) x (insert k) .numbers .refusal ≡ 0 → (told-by (noted sets published s x (insert k) .world) x (contains k) .numbers .case ≡ 7)
-unfolding meant
+unfolding meant setMeant
 told-after-insert s h x f e k r =
     let g = noted sets published s x (insert k) in
     let run = told-in-step sets published sets-linked sets-lawful owed owes-told ((x, (insert k)) ∷ (x, contains k) ∷ []) s h in
@@ -204,7 +205,7 @@ told-after-insert s h x f e k r =
     ap (λ n. n .case) q
 
 pub told-after-remove : (s : Book sets) → Right sets published s → (x : ℕ) (f : Finite ℕ (Unit {0})) → s .maps x ≡ some f → (k : ℕ) → told-by (s .world) x (remove k) .numbers .refusal ≡ 0 → told-by (noted sets published s x (remove k) .world) x (contains k) .numbers .case ≡ 8
-unfolding meant
+unfolding meant setMeant
 told-after-remove s h x f e k r =
     let g = noted sets published s x (remove k) in
     let run = told-in-step sets published sets-linked sets-lawful owed owes-told ((x, remove k) ∷ (x, contains k) ∷ []) s h in

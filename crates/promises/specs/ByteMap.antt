@@ -26,17 +26,12 @@ use Rattle.byte_slots.specs.Memory.{Strings, part, offsetAt, lengthAt}
 use Rattle.byte_slots.specs.Kinds.{maps, insertOf, stepOf}
 use Rattle.byte_map_entry.specs.declared.Entered.{Entered}
 use Rattle.byte_map_entry.specs.Calls.{handleOf}
+pub use Rattle.promises.specs.MapAlphabet.{make, clear, capacity, len, is-empty, reserve, copy, union-prefer-right, get, contains-key, remove, entry, insert, occupied-get, occupied-remove, occupied-remove-entry, step, occupied-set, vacant-insert, or-insert, insert-entry}
+use Rattle.promises.specs.MapAlphabet.{MapCall, mapMeant}
 
--- One constructor for each published call: keys are byte strings, values, slots and budgets numbers, another table is its number.
-pub data Call : Type 0 where
-  make clear capacity len is-empty : Call
-  reserve copy union-prefer-right : ℕ → Call
-  get contains-key remove entry : List ℕ → Call
-  insert : List ℕ → ℕ → Call
-  occupied-get occupied-remove occupied-remove-entry : ℕ → List ℕ → Call
-  step : ℕ → ℕ → Call
-  occupied-set vacant-insert : ℕ → List ℕ → ℕ → Call
-  or-insert insert-entry : Entered → List ℕ → ℕ → Call
+-- A map's calls, over this kind's keys and entry answers.
+abbrev pub Call : Type 0
+Call = MapCall (List ℕ) Entered
 
 -- What a call on the table x tells and leaves: the definition that its contract cites.
 unfoldable pub told-by : World maps → ℕ → Call → Told (Strings values)
@@ -64,27 +59,7 @@ told-by w x (insert-entry e k v) = insertEntryOf maps (w x) (handleOf (length (w
 
 -- The call of the theory that it is.
 unfoldable pub meant : World maps → ℕ → Call → model.Call (List ℕ) ℕ
-meant w x make = model.own model.makes
-meant w x clear = model.own model.clears
-meant w x capacity = model.own model.capacities
-meant w x len = model.own model.lens
-meant w x is-empty = model.own model.empties
-meant w x (reserve n) = model.own (model.reserves n)
-meant w x (get k) = model.own (model.gets k)
-meant w x (contains-key k) = model.own (model.contains-keys k)
-meant w x (remove k) = model.own (model.removes k)
-meant w x (entry k) = model.own (model.entries k)
-meant w x (copy y) = model.copies y
-meant w x (union-prefer-right y) = model.unions y
-meant w x (insert k v) = model.own (model.inserts k v)
-meant w x (occupied-get s k) = model.own (model.occupied-gets s k)
-meant w x (occupied-remove s k) = model.own (model.occupied-removes s k)
-meant w x (occupied-remove-entry s k) = model.own (model.occupied-removes s k)
-meant w x (step at budget) = model.steps at budget
-meant w x (occupied-set s k v) = model.own (model.occupied-sets s k v)
-meant w x (vacant-insert s k v) = model.own (model.vacant-inserts s k v)
-meant w x (or-insert e k v) = model.own (model.or-inserts (handleOf (length (w x .spans .marks)) e) k v)
-meant w x (insert-entry e k v) = model.own (model.insert-entries (handleOf (length (w x .spans .marks)) e) k v)
+meant w x c = mapMeant (handleOf (length (w x .spans .marks))) c
 
 -- The step of a lent walk: what it tells, and the walk that it leaves in its place.
 unfoldable pub lent-by : World maps → ℕ → ℕ → ℕ → Told ℕ
@@ -128,27 +103,9 @@ Owes s x f (insert-entry h k v) n = n ≡ replacing maps (s .world x) f (handleO
 
 -- Where a call tells where a key stands, that part of the arena after the call is the key: of a step, the key of the slot behind the walk. A fresh key has the length that the caller gave.
 abbrev pub Stands : World maps → ℕ → Call → Told (Strings values) → Type 0
-Stands w x make t = Unit {0}
-Stands w x clear t = Unit {0}
-Stands w x capacity t = Unit {0}
-Stands w x len t = Unit {0}
-Stands w x is-empty t = Unit {0}
-Stands w x (reserve n) t = Unit {0}
-Stands w x (get k) t = Unit {0}
-Stands w x (contains-key k) t = Unit {0}
-Stands w x (remove k) t = Unit {0}
-Stands w x (entry k) t = Unit {0}
-Stands w x (copy y) t = Unit {0}
-Stands w x (union-prefer-right y) t = Unit {0}
-Stands w x (insert k v) t = t .numbers .case ≡ FRESH → part (t .memory .spans .arena) (t .numbers .offset) (length k) ≡ k
-Stands w x (occupied-get i k) t = Unit {0}
-Stands w x (occupied-remove i k) t = Unit {0}
-Stands w x (occupied-remove-entry i k) t = Unit {0}
-Stands w x (step a b) t = t .numbers .case ≡ PAIR → maps .slots (w x) (t .numbers .walk - 1) ≡ live (part (t .memory .spans .arena) (t .numbers .offset) (t .numbers .length)) (t .numbers .value)
-Stands w x (occupied-set i k v) t = Unit {0}
-Stands w x (vacant-insert i k v) t = Unit {0}
-Stands w x (or-insert h k v) t = Unit {0}
-Stands w x (insert-entry h k v) t = Unit {0}
+Stands w x c t =
+    ((k : List ℕ) (v : ℕ) → c ≡ insert k v → t .numbers .case ≡ FRESH → part (t .memory .spans .arena) (t .numbers .offset) (length k) ≡ k)
+    × ((a b : ℕ) → c ≡ step a b → t .numbers .case ≡ PAIR → maps .slots (w x) (t .numbers .walk - 1) ≡ live (part (t .memory .spans .arena) (t .numbers .offset) (t .numbers .length)) (t .numbers .value))
 
 -- What a call owes where the map of its table is known.
 abbrev pub owed : Duty maps published

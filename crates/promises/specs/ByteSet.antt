@@ -23,13 +23,12 @@ use Rattle.kinds.specs.Owed.{refusing, only, counting, standing, copying, looki
 use Rattle.kinds.specs.Moved.{movedOn}
 use Rattle.byte_slots.specs.Memory.{Strings, part, offsetAt, lengthAt}
 use Rattle.byte_slots.specs.Kinds.{sets, joinOf, spanOf, setStepOf}
+pub use Rattle.promises.specs.SetAlphabet.{make, clear, capacity, len, is-empty, reserve, copy, get, contains, insert, remove, step}
+use Rattle.promises.specs.SetAlphabet.{SetCall, setMeant}
 
--- One constructor for each published call: keys are byte strings, budgets are numbers, another table is its number.
-pub data Call : Type 0 where
-  make clear capacity len is-empty : Call
-  reserve copy : ℕ → Call
-  get contains insert remove : List ℕ → Call
-  step : ℕ → ℕ → Call
+-- A set's calls, over this kind's keys.
+abbrev pub Call : Type 0
+Call = SetCall (List ℕ)
 
 -- What a call on the table x tells and leaves: the definition that its contract cites.
 unfoldable pub told-by : World sets → ℕ → Call → Told (Strings nothing)
@@ -48,18 +47,7 @@ told-by w x (step at budget) = told (setStepOf (w x) at budget) (w x)
 
 -- The call of the theory that it is.
 unfoldable pub meant : World sets → ℕ → Call → model.Call (List ℕ) (Unit {0})
-meant w x make = model.own model.makes
-meant w x clear = model.own model.clears
-meant w x capacity = model.own model.capacities
-meant w x len = model.own model.lens
-meant w x is-empty = model.own model.empties
-meant w x (reserve n) = model.own (model.reserves n)
-meant w x (copy y) = model.copies y
-meant w x (get k) = model.own (model.gets k)
-meant w x (contains k) = model.own (model.contains-keys k)
-meant w x (insert k) = model.own (model.inserts k tt)
-meant w x (remove k) = model.own (model.removes k)
-meant w x (step at budget) = model.steps at budget
+meant w x c = setMeant c
 
 -- The step of a lent walk: what it tells, and the walk that it leaves in its place.
 unfoldable pub lent-by : World sets → ℕ → ℕ → ℕ → Told ℕ
@@ -94,18 +82,10 @@ Owes s x f (step a b) n = Paces sets (s .world x) f (keyTold (s .world x)) a b n
 
 -- Where a call tells where a key stands, that part of the arena after the call is the key: of a step, the key of the slot behind the walk. A fresh key has the length that the caller gave.
 abbrev pub Stands : World sets → ℕ → Call → Told (Strings nothing) → Type 0
-Stands w x make t = Unit {0}
-Stands w x clear t = Unit {0}
-Stands w x capacity t = Unit {0}
-Stands w x len t = Unit {0}
-Stands w x is-empty t = Unit {0}
-Stands w x (reserve n) t = Unit {0}
-Stands w x (copy y) t = Unit {0}
-Stands w x (get k) t = t .numbers .case ≡ FOUND → part (t .memory .spans .arena) (t .numbers .offset) (t .numbers .length) ≡ k
-Stands w x (contains k) t = Unit {0}
-Stands w x (insert k) t = t .numbers .case ≡ FRESH → part (t .memory .spans .arena) (t .numbers .offset) (length k) ≡ k
-Stands w x (remove k) t = Unit {0}
-Stands w x (step a b) t = t .numbers .case ≡ PAIR → sets .slots (w x) (t .numbers .walk - 1) ≡ live (part (t .memory .spans .arena) (t .numbers .offset) (t .numbers .length)) tt
+Stands w x c t =
+    ((k : List ℕ) → c ≡ get k → t .numbers .case ≡ FOUND → part (t .memory .spans .arena) (t .numbers .offset) (t .numbers .length) ≡ k)
+    × ((k : List ℕ) → c ≡ insert k → t .numbers .case ≡ FRESH → part (t .memory .spans .arena) (t .numbers .offset) (length k) ≡ k)
+    × ((a b : ℕ) → c ≡ step a b → t .numbers .case ≡ PAIR → sets .slots (w x) (t .numbers .walk - 1) ≡ live (part (t .memory .spans .arena) (t .numbers .offset) (t .numbers .length)) tt)
 
 -- What a call owes where the set of its table is known.
 abbrev pub owed : Duty sets published

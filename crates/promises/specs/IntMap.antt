@@ -27,14 +27,12 @@ use Rattle.int_map_walk.specs.Calls.{stepOf}
 use Rattle.int_map_occupied.specs.Calls.{removeEntryOf}
 use Rattle.int_map_entry.specs.declared.Entered.{Entered}
 use Rattle.int_map_entry.specs.Calls.{handleOf}
+pub use Rattle.promises.specs.MapAlphabet.{make, clear, capacity, len, is-empty, reserve, copy, union-prefer-right, get, contains-key, remove, entry, insert, occupied-get, occupied-remove, occupied-remove-entry, step, occupied-set, vacant-insert, or-insert, insert-entry}
+use Rattle.promises.specs.MapAlphabet.{MapCall, mapMeant}
 
--- One constructor for each published call: keys, values, slots and budgets are numbers, another table is its number.
-pub data Call : Type 0 where
-  make clear capacity len is-empty : Call
-  reserve get contains-key remove entry copy union-prefer-right : ℕ → Call
-  insert occupied-get occupied-remove occupied-remove-entry step : ℕ → ℕ → Call
-  occupied-set vacant-insert : ℕ → ℕ → ℕ → Call
-  or-insert insert-entry : Entered → ℕ → ℕ → Call
+-- A map's calls, over this kind's keys and entry answers.
+abbrev pub Call : Type 0
+Call = MapCall ℕ Entered
 
 -- What a call on the table x tells and leaves: the definition that its contract cites.
 unfoldable pub told-by : World maps → ℕ → Call → Told (Cells values)
@@ -62,27 +60,7 @@ told-by w x (insert-entry e k v) = insertEntryOf maps (w x) (handleOf (length (w
 
 -- The call of the theory that it is.
 unfoldable pub meant : World maps → ℕ → Call → model.Call ℕ ℕ
-meant w x make = model.own model.makes
-meant w x clear = model.own model.clears
-meant w x capacity = model.own model.capacities
-meant w x len = model.own model.lens
-meant w x is-empty = model.own model.empties
-meant w x (reserve n) = model.own (model.reserves n)
-meant w x (get k) = model.own (model.gets k)
-meant w x (contains-key k) = model.own (model.contains-keys k)
-meant w x (remove k) = model.own (model.removes k)
-meant w x (entry k) = model.own (model.entries k)
-meant w x (copy y) = model.copies y
-meant w x (union-prefer-right y) = model.unions y
-meant w x (insert k v) = model.own (model.inserts k v)
-meant w x (occupied-get s k) = model.own (model.occupied-gets s k)
-meant w x (occupied-remove s k) = model.own (model.occupied-removes s k)
-meant w x (occupied-remove-entry s k) = model.own (model.occupied-removes s k)
-meant w x (step at budget) = model.steps at budget
-meant w x (occupied-set s k v) = model.own (model.occupied-sets s k v)
-meant w x (vacant-insert s k v) = model.own (model.vacant-inserts s k v)
-meant w x (or-insert e k v) = model.own (model.or-inserts (handleOf (length (w x .marks)) e) k v)
-meant w x (insert-entry e k v) = model.own (model.insert-entries (handleOf (length (w x .marks)) e) k v)
+meant w x c = mapMeant (handleOf (length (w x .marks))) c
 
 -- The step of a lent walk: what it tells, and the walk that it leaves in its place.
 unfoldable pub lent-by : World maps → ℕ → ℕ → ℕ → Told ℕ

@@ -23,12 +23,12 @@ use Rattle.int_slots.specs.Sets.{sets}
 use Rattle.int_set.specs.Calls.{insertOf}
 use Rattle.int_set_reads.specs.Calls.{getOf}
 use Rattle.int_set_walk.specs.Calls.{stepOf}
+pub use Rattle.promises.specs.SetAlphabet.{make, clear, capacity, len, is-empty, reserve, copy, get, contains, insert, remove, step}
+use Rattle.promises.specs.SetAlphabet.{SetCall, setMeant}
 
--- One constructor for each published call: keys and budgets are numbers, another table is its number.
-pub data Call : Type 0 where
-  make clear capacity len is-empty : Call
-  reserve get contains insert remove copy : ℕ → Call
-  step : ℕ → ℕ → Call
+-- A set's calls, over this kind's keys.
+abbrev pub Call : Type 0
+Call = SetCall ℕ
 
 -- What a call on the table x tells and leaves: the definition that its contract cites.
 unfoldable pub told-by : World sets → ℕ → Call → Told (Cells nothing)
@@ -47,18 +47,7 @@ told-by w x (step at budget) = told (stepOf (w x) at budget) (w x)
 
 -- The call of the theory that it is.
 unfoldable pub meant : World sets → ℕ → Call → model.Call ℕ (Unit {0})
-meant w x make = model.own model.makes
-meant w x clear = model.own model.clears
-meant w x capacity = model.own model.capacities
-meant w x len = model.own model.lens
-meant w x is-empty = model.own model.empties
-meant w x (reserve n) = model.own (model.reserves n)
-meant w x (get k) = model.own (model.gets k)
-meant w x (contains k) = model.own (model.contains-keys k)
-meant w x (insert k) = model.own (model.inserts k tt)
-meant w x (remove k) = model.own (model.removes k)
-meant w x (copy y) = model.copies y
-meant w x (step at budget) = model.steps at budget
+meant w x c = setMeant c
 
 -- The step of a lent walk: what it tells, and the walk that it leaves in its place.
 unfoldable pub lent-by : World sets → ℕ → ℕ → ℕ → Told ℕ
