@@ -18,12 +18,11 @@ use Rattle.arrays.specs.Whole.{copied}
 use Rattle.arrays.proofs.Below.{copied-whole}
 use Rattle.kinds.specs.Columns.{values}
 use Rattle.kinds.specs.Told.{told}
-use Rattle.kinds.specs.Calls.{copyOf}
+use Rattle.kinds.specs.Calls.{sizedOf, copyOf}
 use Rattle.byte_slots.specs.Memory.{Strings}
 use Rattle.byte_slots.specs.Kinds.{maps, mapMemory}
-use Rattle.byte_map_reads.specs.Seeking.{sizedOf}
-use Rattle.byte_map_reads.proofs.Counting.{sized-as}
-use Rattle.byte_map_reads.proofs.Laws.{same-long}
+use Rattle.kinds.proofs.Sizing.{sized-as}
+use Rattle.byte_slots.proofs.MapSizes.{same-long}
 
 -- arenas of other sizes are refused 1, whatever the other tests say
 pub copy-arena : {K W : Type 0} (M : Store K W) (m n : M .State) → (M .bytes m ≡ M .bytes n → ⊥) → told (outcomeNumbers (outcome.Refused Sizes)) m ≡ copyOf M m n

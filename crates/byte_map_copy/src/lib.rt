@@ -10,7 +10,7 @@ use answers::Refusal;
 use arrays::copy_bytes;
 use arrays::copy_shorts;
 use arrays::copy_words;
-use byte_map_reads::map_fits;
+use byte_slots::map_fits;
 
 // Makes a map equal to another of equal sizes, in every slot and byte.
 pub fn copy(

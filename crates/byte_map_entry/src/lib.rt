@@ -13,8 +13,8 @@ use answers::Numbers;
 use answers::Refusal;
 use answers::case_numbers;
 use answers::refusal_numbers;
-use byte_map::place;
-use byte_slots::Placed;
+use byte_slots::InsertPlan;
+use byte_slots::map_plan_insert;
 
 // The handles and the answers of their calls stand in `byte_map_occupied` and `byte_map_vacant`, and are had here too.
 pub use byte_map_occupied::Held;
@@ -42,11 +42,15 @@ pub fn entry(
 ) -> Entered
     ensures { λ r. ⌜ enteredNumbers r ≡ entryOf maps (before marks offsets lengths values arena) (now (key .entry)) ⌝ }
 {
-    let plan = place(marks, offsets, lengths, values, arena, key);
+    let plan = map_plan_insert(marks, offsets, lengths, values, arena, key);
     match plan {
-        Placed::Hit(slot, examined) => Entered::Occupied(Occupied { slot }, values[slot], examined),
-        Placed::Free(slot, examined, _) => Entered::Vacant(Vacant { slot }, examined),
-        Placed::Refused(r) => Entered::Refused(r),
+        InsertPlan::Hit(slot, examined) => Entered::Occupied(
+            Occupied { slot },
+            values[slot],
+            examined,
+        ),
+        InsertPlan::Free(slot, examined, _) => Entered::Vacant(Vacant { slot }, examined),
+        InsertPlan::Refused(r) => Entered::Refused(r),
     }
 }
 

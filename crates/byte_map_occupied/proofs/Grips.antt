@@ -15,7 +15,7 @@ use Rattle.answers.specs.Refusals.{numberOf}
 use Rattle.answers.specs.Said.{heldSaid, swappedSaid}
 use Rattle.kinds.specs.declared.Sight.{Sight}
 use Rattle.kinds.specs.declared.Sight.the-variants.{Never, Freed, Bad, Same, Other}
-use Rattle.kinds.specs.Calls.{heldOf, setOf}
+use Rattle.kinds.specs.Calls.{sizedOf, heldOf, setOf}
 use Rattle.kinds.specs.Columns.{values}
 use Rattle.kinds.specs.Marks.{cell}
 use Rattle.kinds.specs.Probing.{lookAt, lookOf}
@@ -27,8 +27,7 @@ use Rattle.byte_slots.specs.Memory.{Strings, keyAt, fitting, askedOf}
 use Rattle.byte_slots.specs.Probing.{sightAt}
 use Rattle.byte_slots.proofs.Bridge.{asked-no}
 use Rattle.byte_slots.proofs.Marks.{slot-cell}
-use Rattle.byte_map_reads.specs.Seeking.{sizedOf}
-use Rattle.byte_map_reads.proofs.Laws.{same-long}
+use Rattle.byte_slots.proofs.MapSizes.{same-long}
 use Rattle.byte_map_occupied.specs.declared.Occupied.{Occupied}
 use Rattle.byte_map_occupied.specs.declared.Held.{Held}
 use Rattle.byte_map_occupied.specs.declared.Held.the-variants as held

@@ -15,7 +15,7 @@ use Rattle.answers.specs.Refusals.{numberOf}
 use Rattle.answers.specs.Said.{takenSaid}
 use Rattle.kinds.specs.declared.Sight.{Sight}
 use Rattle.kinds.specs.declared.Sight.the-variants.{Never, Freed, Bad, Same, Other}
-use Rattle.kinds.specs.Calls.{takenOf}
+use Rattle.kinds.specs.Calls.{sizedOf, takenOf}
 use Rattle.kinds.specs.Columns.{values}
 use Rattle.kinds.specs.Marks.{cell}
 use Rattle.kinds.specs.Probing.{lookAt, lookOf}
@@ -34,8 +34,7 @@ use Rattle.byte_slots.proofs.Marks.{mark-raw}
 use Rattle.byte_slots.proofs.Plans.{surveyed-bad, surveyed-used}
 use Rattle.byte_slots.proofs.Sizes.{fitting-says}
 use Rattle.byte_arena.specs.Needs.{Freeable}
-use Rattle.byte_map_reads.specs.Seeking.{sizedOf}
-use Rattle.byte_map_reads.proofs.Laws.{sized-fits, same-long}
+use Rattle.byte_slots.proofs.MapSizes.{sized-fits, same-long}
 use Rattle.byte_map_occupied.specs.declared.Held.{Held}
 use Rattle.byte_map_occupied.specs.declared.Held.the-variants as held
 use Rattle.byte_map_occupied.specs.declared.Pulled.{Pulled}

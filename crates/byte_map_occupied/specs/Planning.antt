@@ -11,7 +11,7 @@ use Rattle.kinds.specs.Columns.{values}
 use Rattle.byte_slots.specs.Kinds.{maps}
 use Rattle.byte_slots.specs.Memory.{Strings, usedOf, harmful, askedOf}
 use Rattle.byte_slots.specs.Probing.{sightAt}
-use Rattle.byte_map_reads.specs.Seeking.{sizedOf}
+use Rattle.kinds.specs.Calls.{sizedOf}
 use Rattle.byte_map_occupied.specs.declared.Held.{Held}
 use Rattle.byte_map_occupied.specs.declared.Held.the-variants as held
 use Rattle.byte_map_occupied.specs.declared.Pulled.{Pulled}

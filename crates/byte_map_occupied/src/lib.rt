@@ -11,8 +11,8 @@ use answers::Numbers;
 use answers::Refusal;
 use answers::case_numbers;
 use answers::refusal_numbers;
-use byte_map_reads::map_fits;
 use byte_slots::Surveyed;
+use byte_slots::map_fits;
 use kinds::Sight;
 
 // A handle of a slot that holds a key.

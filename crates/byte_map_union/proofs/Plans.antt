@@ -23,7 +23,7 @@ use Rattle.byte_slots.proofs.Bridge.{path-is, used-is}
 use Rattle.byte_slots.proofs.Held.{bare-damaged, unharmed-whole}
 use Rattle.byte_slots.proofs.Marks.{slot-cell}
 use Rattle.byte_slots.proofs.Sizes.{fitting-says}
-use Rattle.byte_map_reads.specs.Seeking.{sizedOf}
+use Rattle.kinds.specs.Calls.{sizedOf}
 use Rattle.byte_map_union.specs.declared.Planned.the-variants.{Refused}
 use Rattle.byte_map_union.specs.Needs.{missing, lackOf, lacksOf, roomOf, planned, planOf}
 

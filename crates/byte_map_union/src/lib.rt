@@ -15,9 +15,9 @@ ghost use Rattle.byte_map_union.specs.Stores.{Ready, Storable, pairAt, p
 use answers::Outcome;
 use answers::Refusal;
 use byte_arena::fill;
-use byte_map_reads::map_fits;
 use byte_slots::Surveyed;
 use byte_slots::len_at;
+use byte_slots::map_fits;
 use byte_slots::mark_at;
 use byte_slots::offset_at;
 use byte_slots::probe;

@@ -11,7 +11,8 @@ use answers::Refusal;
 use answers::case_numbers;
 use answers::refusal_numbers;
 use byte_map_occupied::Occupied;
-use byte_slots::Placed;
+use byte_slots::InsertPlan;
+use byte_slots::map_plan_insert;
 
 // A handle of the slot that a key would take.
 pub struct Vacant {
@@ -31,18 +32,18 @@ pub enum Fresh {
 }
 
 // What a vacant handle of this slot makes of insert's plan: it is good where insert would use that very slot.
-fn fresh_by(plan: Placed, slot: usize) -> Fresh
+fn fresh_by(plan: InsertPlan, slot: usize) -> Fresh
     ensures { λ r. ⌜ r ≡ freshBy slot plan ⌝ }
 {
     match plan {
-        Placed::Free(free, _, used) => {
+        InsertPlan::Free(free, _, used) => {
             if slot == free {
                 return Fresh::Used(used);
             }
             return Fresh::Refused(Refusal::BadHandle);
         }
-        Placed::Hit(_, _) => return Fresh::Refused(Refusal::BadHandle),
-        Placed::Refused(r) => {
+        InsertPlan::Hit(_, _) => return Fresh::Refused(Refusal::BadHandle),
+        InsertPlan::Refused(r) => {
             if 6 < answers::number(r) {
                 return Fresh::Refused(Refusal::BadHandle);
             }
@@ -66,7 +67,7 @@ impl Vacant {
         ensures { λ r. ⌜ told (standingNumbers r) (after marks offsets lengths values arena) ≡ standingOf maps (before marks offsets lengths values arena) (self .slot) (now (key .entry)) value ⌝ }
     {
         let slot = self.slot;
-        let plan = byte_map::place(marks, offsets, lengths, values, arena, key);
+        let plan = map_plan_insert(marks, offsets, lengths, values, arena, key);
         let worth = fresh_by(plan, slot);
         match worth {
             Fresh::Used(used) => {

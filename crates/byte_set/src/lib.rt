@@ -9,8 +9,8 @@ use answers::Dropped;
 use answers::Joined;
 use answers::Outcome;
 use answers::Refusal;
-use byte_slots::Located;
-use byte_slots::Placed;
+use byte_slots::InsertPlan;
+use byte_slots::RemovePlan;
 
 // Makes an empty set of the lent arrays.
 pub fn make(marks: &mut [u8], offsets: &mut [u16], lengths: &mut [u8], arena: &mut [u8]) -> Outcome
@@ -41,14 +41,14 @@ pub fn insert(
 ) -> Joined
     ensures { λ r. ⌜ told (joinedNumbers r) (after marks offsets lengths arena) ≡ joinOf (before marks offsets lengths arena) (now (key .entry)) ⌝ }
 {
-    let plan = byte_slots::place(marks, offsets, lengths, arena, key);
+    let plan = byte_slots::plan_insert(marks, offsets, lengths, arena, key);
     match plan {
-        Placed::Hit(slot, examined) => Joined::Already(slot, examined),
-        Placed::Free(slot, examined, used) => {
+        InsertPlan::Hit(slot, examined) => Joined::Already(slot, examined),
+        InsertPlan::Free(slot, examined, used) => {
             byte_arena::fill(marks, offsets, lengths, arena, slot, used, key);
             Joined::Fresh(slot, used, examined)
         }
-        Placed::Refused(r) => Joined::Refused(r),
+        InsertPlan::Refused(r) => Joined::Refused(r),
     }
 }
 
@@ -62,13 +62,13 @@ pub fn remove(
 ) -> Dropped
     ensures { λ r. ⌜ told (droppedNumbers r) (after marks offsets lengths arena) ≡ droppedOf sets (before marks offsets lengths arena) (now (key .entry)) ⌝ }
 {
-    let plan = byte_slots::locate(marks, offsets, lengths, arena, key);
+    let plan = byte_slots::plan_remove(marks, offsets, lengths, arena, key);
     match plan {
-        Located::Hit(slot, examined, used) => {
+        RemovePlan::Hit(slot, examined, used) => {
             byte_arena::free(marks, offsets, lengths, arena, slot, used);
             Dropped::Removed(slot, examined)
         }
-        Located::Absent(examined) => Dropped::Absent(examined),
-        Located::Refused(r) => Dropped::Refused(r),
+        RemovePlan::Absent(examined) => Dropped::Absent(examined),
+        RemovePlan::Refused(r) => Dropped::Refused(r),
     }
 }

@@ -1,5 +1,5 @@
 -- `byte_map_occupied::hold` meets its contract: sizes, then the key, then the slot.
-use Rattle.byte_map_reads.proofs.Laws.{same-long}
+use Rattle.byte_slots.proofs.MapSizes.{same-long}
 use Rattle.byte_map_occupied.proofs.Grips.{holding-unfit, holding-long, holding-grip}
 use borrow.Author.Needs.{needs}
 use Rattle.byte_map_occupied.proofs.hold.Statement.{statement}

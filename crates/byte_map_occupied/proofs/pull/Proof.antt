@@ -1,5 +1,5 @@
 -- `byte_map_occupied::pull` meets its contract: sizes, then the key, then every slot, then the handle's.
-use Rattle.byte_map_reads.proofs.Laws.{sized-fits, same-long}
+use Rattle.byte_slots.proofs.MapSizes.{sized-fits, same-long}
 use Rattle.byte_map_occupied.proofs.Pulls.{pulling-unfit, pulling-long, pulling-bad, pulling-grip}
 use borrow.Author.Needs.{needs}
 use Rattle.byte_map_occupied.proofs.pull.Statement.{statement}
