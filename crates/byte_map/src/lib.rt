@@ -2,7 +2,7 @@
 ghost use mathlib.Core.Path.{_≡_};
 ghost use Rattle.answers.specs.Numbers.{outcomeNumbers, storedNumbers, removedNumbers};
 ghost use Rattle.kinds.specs.Told.{told};
-ghost use Rattle.kinds.specs.Calls.{makeOf, removeOf};
+ghost use Rattle.kinds.specs.Calls.{makeOf, copyOf, removeOf};
 ghost use Rattle.byte_slots.specs.Kinds.{maps, insertOf};
 ghost use Rattle.byte_slots.specs.Maps.{before, after};
 use answers::Outcome;
@@ -10,6 +10,9 @@ use answers::Refusal;
 use answers::Removed;
 use answers::Stored;
 use arrays::clear_words;
+use arrays::copy_bytes;
+use arrays::copy_shorts;
+use arrays::copy_words;
 use byte_arena::fill;
 use byte_arena::free;
 use byte_arena::wipe;
@@ -32,9 +35,10 @@ pub fn make(
     if map_fits(marks, offsets, lengths, values, arena) {
         wipe(marks, offsets, lengths, arena);
         clear_words(values);
-        return Outcome::Done;
+        Outcome::Done
+    } else {
+        Outcome::Refused(Refusal::Sizes)
     }
-    Outcome::Refused(Refusal::Sizes)
 }
 
 // Empties a map: every slot becomes never used, every arena byte 0.
@@ -100,4 +104,37 @@ pub fn remove(
         RemovePlan::Absent(examined) => Removed::Absent(examined),
         RemovePlan::Refused(r) => Removed::Refused(r),
     }
+}
+
+// Makes a map equal to another of equal sizes, in every slot and byte.
+pub fn copy(
+    to_marks: &mut [u8],
+    to_offsets: &mut [u16],
+    to_lengths: &mut [u8],
+    to_values: &mut [u64],
+    to_arena: &mut [u8],
+    marks: &[u8],
+    offsets: &[u16],
+    lengths: &[u8],
+    values: &[u64],
+    arena: &[u8],
+) -> Outcome
+    ensures { λ r. ⌜ told (outcomeNumbers r) (after «to_marks» «to_offsets» «to_lengths» «to_values» «to_arena») ≡ copyOf maps (before «to_marks» «to_offsets» «to_lengths» «to_values» «to_arena») (before marks offsets lengths values arena) ⌝ }
+{
+    if to_arena.len() != arena.len() {
+        return Outcome::Refused(Refusal::Sizes);
+    }
+    if map_fits(to_marks, to_offsets, to_lengths, to_values, to_arena) {
+        if map_fits(marks, offsets, lengths, values, arena) {
+            if to_marks.len() == marks.len() {
+                copy_bytes(to_marks, marks);
+                copy_shorts(to_offsets, offsets);
+                copy_bytes(to_lengths, lengths);
+                copy_words(to_values, values);
+                copy_bytes(to_arena, arena);
+                return Outcome::Done;
+            }
+        }
+    }
+    Outcome::Refused(Refusal::Sizes)
 }

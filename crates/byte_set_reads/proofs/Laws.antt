@@ -20,7 +20,7 @@ use Rattle.kinds.specs.Columns.{nothing}
 use Rattle.kinds.proofs.Bridge.{seenOf}
 use Rattle.kinds.proofs.Sizing.{len-live, len-damaged}
 use Rattle.byte_slots.specs.Memory.{Spans, fitting, offsetAt, lengthAt}
-use Rattle.byte_slots.specs.Kinds.{sets, spanOf}
+use Rattle.byte_slots.specs.Kinds.{sets, setGetOf}
 use Rattle.byte_slots.specs.Probing.{probing}
 use Rattle.byte_slots.specs.Scanning.{scanning}
 use Rattle.byte_slots.proofs.Bridge.{probing-inside, get-probing, scan-live, scan-bad}
@@ -41,8 +41,8 @@ module _ (s : Spans) where
     seen-by q = rw (← q, p) (get-probing nothing (setOf s) k refl)
 
     module _ {x : Probed} (q : r ≡ x) where
-      pub get-says : spannedSaid (offsetAt s) (lengthAt s) (seenOf {W = Unit {0}} (λ i. tt) x) ≡ spanOf (setOf s) k
-      unfolding spanOf
+      pub get-says : spannedSaid (offsetAt s) (lengthAt s) (seenOf {W = Unit {0}} (λ i. tt) x) ≡ setGetOf (setOf s) k
+      unfolding setGetOf
       get-says = rw (seen-by q)
 
       pub contains-says : containedSaid (seenOf {W = Unit {0}} (λ i. tt) x) ≡ containsOf sets (setOf s) k
@@ -54,6 +54,6 @@ module _ (s : Spans) where
     get-inside q = let (l, z) = probing-inside nothing (setOf s) k p q in omega (arith, z .lengths)
 
     -- a found key's span is what stands in its slot
-    pub get-found : {i e o l : ℕ} → r ≡ probed.Hit i e → o ≡ getD (s .offsets) i 0 → l ≡ getD (s .lengths) i 0 → spannedNumbers (spanned.Found o l i e) ≡ spanOf (setOf s) k
+    pub get-found : {i e o l : ℕ} → r ≡ probed.Hit i e → o ≡ getD (s .offsets) i 0 → l ≡ getD (s .lengths) i 0 → spannedNumbers (spanned.Found o l i e) ≡ setGetOf (setOf s) k
     unfolding spannedNumbers spannedSaid
     get-found q x y = rw (x, y) (get-says q)
