@@ -1,6 +1,6 @@
 -- `byte_map_entry::entry` meets its contract: each way in which the plan ends is an answer.
 use Rattle.byte_slots.proofs.Planning.{map-plan-insert-inside}
-use Rattle.byte_map_entry.proofs.Places.{entry-hit, entry-free, entry-refused}
+use Rattle.byte_map_entry.proofs.Plans.{entry-hit, entry-free, entry-refused}
 use borrow.Author.Needs.{needs}
 use Rattle.byte_map_entry.proofs.entry.Statement.{statement}
 use Rattle.byte_map_entry.proofs.entry.Tie as tie

@@ -1,11 +1,11 @@
--- `byte_map_union::lives` meets its contract. The loop's invariant: so many of the marks passed are 1. The measure is how many are left.
+-- `byte_map_union::live_marks` meets its contract. The loop's invariant: so many of the marks passed are 1. The measure is how many are left.
 use Prim.Native.Nat.{_-_}
 use lib.ListN.{length}
 use borrow.Author.Needs.{needs}
 use Rattle.kinds.proofs.Scanning.{counted-low}
 use Rattle.byte_map_union.proofs.Rooms.{Counting, count-start, count-more, count-end}
-use Rattle.byte_map_union.proofs.lives.Statement.{statement}
-use Rattle.byte_map_union.proofs.lives.Tie as tie
+use Rattle.byte_map_union.proofs.live_marks.Statement.{statement}
+use Rattle.byte_map_union.proofs.live_marks.Tie as tie
 
 abbrev Inv-loop : tie.InvT-loop
 Inv-loop marks live₀ i₀ live i = Counting marks live i
@@ -25,8 +25,8 @@ loop-again c = count-more (c .before .before .before .loop .inv) (c .before .bef
 returns : tie.Need-returns Inv-loop μ-loop
 returns c = count-end (c .before .loop .inv) (c .loop-test .left)
 
-pub lives-spec : {M : Type 1} → statement M
-lives-spec =
+pub live-marks-spec : {M : Type 1} → statement M
+live-marks-spec =
     tie.close
     (tie.spec
     Inv-loop μ-loop loop-holds (λ c. search needs) (λ c κs. search needs) add-live (λ c. search needs) (λ c. search needs) loop-again
