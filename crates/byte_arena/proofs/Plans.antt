@@ -13,38 +13,40 @@ use Rattle.model.proofs.Cases.{by-bool, clash}
 use Rattle.model.proofs.Path.{at-below, hit-at}
 use Rattle.digest.specs.Home.{homeOf, keyFits, keyLimit}
 use Rattle.digest.proofs.Bounds.{home-below}
+use Rattle.answers.specs.declared.Refusal.the-variants.{Sizes}
 use Rattle.kinds.specs.declared.Probed.{Probed}
 use Rattle.kinds.specs.declared.Probed.the-variants as probed
-use Rattle.kinds.specs.Columns.{nothing}
+use Rattle.kinds.specs.Columns.{values, nothing}
 use Rattle.kinds.specs.Probing.{along}
 use Rattle.kinds.proofs.Bridge.{free-below}
-use Rattle.byte_slots.specs.declared.Placed.{Placed}
-use Rattle.byte_slots.specs.declared.Placed.the-variants as placed
-use Rattle.byte_slots.specs.declared.Located.{Located}
-use Rattle.byte_slots.specs.declared.Located.the-variants as located
+use Rattle.byte_slots.specs.declared.InsertPlan.{InsertPlan}
+use Rattle.byte_slots.specs.declared.InsertPlan.the-variants as insertPlan
+use Rattle.byte_slots.specs.declared.RemovePlan.{RemovePlan}
+use Rattle.byte_slots.specs.declared.RemovePlan.the-variants as removePlan
 use Rattle.byte_slots.specs.Keys.{byteKeys}
 use Rattle.byte_slots.specs.Memory.{Spans, Strings, strings, bare, usedOf, harmful, fitting, askedOf, keptOf, liveAt}
-use Rattle.byte_slots.specs.Planning.{placedBy, roomFor, placing, locatedBy, locating}
+use Rattle.byte_slots.specs.Planning.{insertPlanBy, roomFor, planningInsert, planningMapInsert, removePlanBy, planningRemove, planningMapRemove}
 use Rattle.byte_slots.specs.Probing.{pathOf}
 use Rattle.byte_slots.proofs.Sizes.{fitting-says}
 use Rattle.byte_slots.proofs.Bridge.{path-is}
+use Rattle.byte_slots.proofs.Seeking.{long-only}
 use Rattle.byte_slots.proofs.Held.{live-says, unharmed-says}
 use Rattle.byte_arena.specs.Needs.{Aligned, Fillable, Freeable}
 
-placed-free : {i e u : ℕ} (v : ℕ) (room : Bool) (x : Probed) → placedBy v room x ≡ placed.Free i e u → (x ≡ probed.Free i e) × (room ≡ true) × (u ≡ v)
-unfolding placedBy
-placed-free v room (probed.Hit a b) q = clash cc
-placed-free v true (probed.Free a b) q = (cc, refl, cc)
-placed-free v false (probed.Free a b) q = clash cc
-placed-free v room (probed.Full a) q = clash cc
-placed-free v room (probed.Refused a) q = clash cc
+insert-plan-free : {i e u : ℕ} (v : ℕ) (room : Bool) (x : Probed) → insertPlanBy v room x ≡ insertPlan.Free i e u → (x ≡ probed.Free i e) × (room ≡ true) × (u ≡ v)
+unfolding insertPlanBy
+insert-plan-free v room (probed.Hit a b) q = clash cc
+insert-plan-free v true (probed.Free a b) q = (cc, refl, cc)
+insert-plan-free v false (probed.Free a b) q = clash cc
+insert-plan-free v room (probed.Full a) q = clash cc
+insert-plan-free v room (probed.Refused a) q = clash cc
 
-located-hit : {i e u : ℕ} (v : ℕ) (x : Probed) → locatedBy v x ≡ located.Hit i e u → (x ≡ probed.Hit i e) × (u ≡ v)
-unfolding locatedBy
-located-hit v (probed.Hit a b) q = (cc, cc)
-located-hit v (probed.Free a b) q = clash cc
-located-hit v (probed.Full a) q = clash cc
-located-hit v (probed.Refused a) q = clash cc
+remove-plan-hit : {i e u : ℕ} (v : ℕ) (x : Probed) → removePlanBy v x ≡ removePlan.Hit i e u → (x ≡ probed.Hit i e) × (u ≡ v)
+unfolding removePlanBy
+remove-plan-hit v (probed.Hit a b) q = (cc, cc)
+remove-plan-hit v (probed.Free a b) q = clash cc
+remove-plan-hit v (probed.Full a) q = clash cc
+remove-plan-hit v (probed.Refused a) q = clash cc
 
 module _ (s : Spans) (k : List ℕ) where
   -- the spans as a set
@@ -78,14 +80,14 @@ module _ (s : Spans) (k : List ℕ) where
   kept-short e = by-bool (keyFits (length k)) (λ f. leb-true (length k) keyLimit f) (λ f. clash (cc (rw f at e)))
 
   -- The plan of insert gives a slot to fill.
-  pub place-fillable : {r : Placed} {i e u : ℕ} → r ≡ placing s k → r ≡ placed.Free i e u → Fillable s i u k
-  unfolding placing roomFor
-  place-fillable {r} {i} {e} {u} p q = by-bool (fitting s)
+  pub plan-fillable : {r : InsertPlan} {i e u : ℕ} → r ≡ planningInsert s k → r ≡ insertPlan.Free i e u → Fillable s i u k
+  unfolding planningInsert roomFor
+  plan-fillable {r} {i} {e} {u} p q = by-bool (fitting s)
       (λ f. by-bool (eqb (keptOf k) 0)
       (λ a. by-bool (harmful s)
       (λ h. clash (cc (rw (f, a, h) at (sym p ∙ q))))
       (λ h.
-      let (x, y, z) = placed-free (usedOf s) (roomFor s k) (pathOf s k) (rw (f, a, h) at (sym p ∙ q)) in
+      let (x, y, z) = insert-plan-free (usedOf s) (roomFor s k) (pathOf s k) (rw (f, a, h) at (sym p ∙ q)) in
       record {
         aligned = aligned f i (free-slot f x);
         used = z;
@@ -97,16 +99,32 @@ module _ (s : Spans) (k : List ℕ) where
       (λ f. clash (cc (rw f at (sym p ∙ q))))
 
   -- The plan of remove gives a slot to free.
-  pub locate-freeable : {r : Located} {i e u : ℕ} → r ≡ locating s k → r ≡ located.Hit i e u → Freeable s i u
-  unfolding locating
-  locate-freeable {r} {i} {e} {u} p q = by-bool (fitting s)
+  pub plan-freeable : {r : RemovePlan} {i e u : ℕ} → r ≡ planningRemove s k → r ≡ removePlan.Hit i e u → Freeable s i u
+  unfolding planningRemove
+  plan-freeable {r} {i} {e} {u} p q = by-bool (fitting s)
       (λ f. by-bool (eqb (askedOf k) 0)
       (λ a. by-bool (harmful s)
       (λ h. clash (cc (rw (f, a, h) at (sym p ∙ q))))
       (λ h.
-      let (x, z) = located-hit (usedOf s) (pathOf s k) (rw (f, a, h) at (sym p ∙ q)) in
+      let (x, z) = remove-plan-hit (usedOf s) (pathOf s k) (rw (f, a, h) at (sym p ∙ q)) in
       let (l, b) = hit-live f x in
       let (w, n) = unharmed-says s h in
       record { aligned = aligned f i l; used = z; ends = rw z (n i b); within = rw z w; size = fitting-says s f .arena }))
       (λ a. clash (cc (rw (f, a) at (sym p ∙ q)))))
       (λ f. clash (cc (rw f at (sym p ∙ q))))
+
+-- The same of a map, whose slots then have a value too.
+module _ (m : Strings values) (k : List ℕ) where
+  pub map-plan-insert-free : {r : InsertPlan} {i e u : ℕ} → r ≡ planningMapInsert m k → r ≡ insertPlan.Free i e u → Fillable (m .spans) i u k × (i < length (m .words))
+  unfolding planningMapInsert
+  map-plan-insert-free p q =
+      let (x, l) = long-only m (planningInsert (m .spans) k) (insertPlan.Refused Sizes) p (λ z. clash (cc)) in
+      let f = plan-fillable (m .spans) k x q in
+      (f, omega (arith, f .aligned .slot))
+
+  pub map-plan-remove-hit : {r : RemovePlan} {i e u : ℕ} → r ≡ planningMapRemove m k → r ≡ removePlan.Hit i e u → Freeable (m .spans) i u × (i < length (m .words))
+  unfolding planningMapRemove
+  map-plan-remove-hit p q =
+      let (x, l) = long-only m (planningRemove (m .spans) k) (removePlan.Refused Sizes) p (λ z. clash (cc)) in
+      let f = plan-freeable (m .spans) k x q in
+      (f, omega (arith, f .aligned .slot))

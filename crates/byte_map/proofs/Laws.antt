@@ -2,7 +2,7 @@
 use Prim.Native.Nat.{ℕ}
 use mathlib.Core.Bool.{Bool, true}
 use mathlib.Core.List.{List}
-use mathlib.Core.Path.{_≡_}
+use mathlib.Core.Path.{_≡_, sym, _∙_}
 use lib.ListN.{length, getD, set, replicate}
 use Rattle.model.specs.Calls.{entry, storedBy, after-insert, remove, removedBy, after-remove}
 use Rattle.answers.specs.declared.Refusal.{Refusal}
@@ -11,58 +11,69 @@ use Rattle.answers.specs.declared.Stored.the-variants as stored
 use Rattle.answers.specs.declared.Removed.the-variants as removed
 use Rattle.answers.specs.Numbers.{outcomeNumbers, storedNumbers, removedNumbers}
 use Rattle.answers.specs.Said.{storedSaid, removedSaid}
+use Rattle.arrays.specs.Whole.{copied}
+use Rattle.arrays.proofs.Below.{copied-whole}
 use Rattle.kinds.specs.Columns.{values}
 use Rattle.kinds.specs.Told.{told}
-use Rattle.kinds.specs.Calls.{makeOf, removeOf}
-use Rattle.byte_slots.specs.declared.Placed.{Placed}
-use Rattle.byte_slots.specs.declared.Placed.the-variants as placed
-use Rattle.byte_slots.specs.declared.Located.{Located}
-use Rattle.byte_slots.specs.declared.Located.the-variants as located
+use Rattle.kinds.specs.Calls.{sizedOf, makeOf, copyOf, removeOf}
+use Rattle.kinds.proofs.Copying.{copy-sized}
+use Rattle.kinds.proofs.Sizing.{sized-as, make-sized}
+use Rattle.byte_slots.specs.declared.InsertPlan.{InsertPlan}
+use Rattle.byte_slots.specs.declared.InsertPlan.the-variants as insertPlan
+use Rattle.byte_slots.specs.declared.RemovePlan.{RemovePlan}
+use Rattle.byte_slots.specs.declared.RemovePlan.the-variants as removePlan
 use Rattle.byte_slots.specs.Memory.{Spans, Strings, filled, emptied, wiped}
-use Rattle.byte_slots.specs.Kinds.{maps, insertOf}
+use Rattle.byte_slots.specs.Kinds.{maps, mapMemory, insertOf}
+use Rattle.byte_slots.specs.Planning.{planningMapInsert, planningMapRemove}
 use Rattle.byte_slots.proofs.Bridge.{spotOf, lostOf}
-use Rattle.byte_map_reads.specs.Seeking.{sizedOf}
-use Rattle.byte_map.specs.Planning.{placingMap, locatingMap}
-use Rattle.byte_map.proofs.Making as making
-use Rattle.byte_map.proofs.Planning.{entry-planned, remove-planned, place-free}
+use Rattle.byte_slots.proofs.MapSizes.{sized-fits, same-long}
+use Rattle.byte_slots.proofs.Planning.{entry-planned, remove-planned}
+use Rattle.byte_arena.proofs.Copies.{spans-copied}
+use Rattle.byte_arena.proofs.Plans.{map-plan-insert-free}
 
 module _ (m : Strings values) where
-  -- by the test of the sizes
-  module _ {b : Bool} (p : b ≡ sizedOf maps m) where
-    -- make and clear
-    pub make-done : b ≡ true → {s : Spans} {ws : List ℕ} → s ≡ wiped (m .spans) → ws ≡ replicate (length (m .words)) 0 → told (outcomeNumbers outcome.Done) (record { spans = s; words = ws }) ≡ makeOf maps m
-    make-done q x y = making.make-done maps m p q (rw (x, y))
+  -- make and clear, by the test of the sizes
+  pub make-done : {b : Bool} → b ≡ sizedOf maps m → b ≡ true → {s : Spans} {ws : List ℕ} → s ≡ wiped (m .spans) → ws ≡ replicate (length (m .words)) 0 → told (outcomeNumbers outcome.Done) (record { spans = s; words = ws }) ≡ makeOf maps m
+  make-done p q x y = make-sized maps m (sized-as maps m p q) (rw (x, y))
+
+  -- copy onto this map from another
+  pub copy-done : (n : Strings values) {b d : Bool} → b ≡ sizedOf maps m → b ≡ true → d ≡ sizedOf maps n → d ≡ true → length (m .spans .marks) ≡ length (n .spans .marks) → length (m .spans .arena) ≡ length (n .spans .arena) → {x y z v w : List ℕ} → x ≡ copied (m .spans .marks) (n .spans .marks) → y ≡ copied (m .spans .offsets) (n .spans .offsets) → z ≡ copied (m .spans .lengths) (n .spans .lengths) → v ≡ copied (m .words) (n .words) → w ≡ copied (m .spans .arena) (n .spans .arena) → told (outcomeNumbers outcome.Done) (mapMemory x y z v w) ≡ copyOf maps m n
+  copy-done n p q r s e f x y z v w =
+      let (a, b, c) = same-long m p q in
+      let (d, g, h) = same-long n r s in
+      copy-sized maps m n (sized-as maps m p q) (sized-as maps n r s) e f
+      (rw (spans-copied (m .spans) (n .spans) (sized-fits m p q) (sized-fits n r s) e f x y z w, copied-whole (m .words) (n .words) (c ∙ e ∙ sym h) v))
 
   -- insert, by its plan
-  module _ (k : List ℕ) (v : ℕ) {r : Placed} (p : r ≡ placingMap m k) where
+  module _ (k : List ℕ) (v : ℕ) {r : InsertPlan} (p : r ≡ planningMapInsert m k) where
     entry-is : entry maps m k ≡ spotOf (λ i. getD (m .words) i 0) r
     entry-is = rw p (entry-planned m k)
 
-    pub insert-hit : {i e : ℕ} → r ≡ placed.Hit i e → told (storedNumbers (stored.Replaced (getD (m .words) i 0) i e)) (record { spans = m .spans; words = set (m .words) i v }) ≡ insertOf m k v
+    pub insert-hit : {i e : ℕ} → r ≡ insertPlan.Hit i e → told (storedNumbers (stored.Replaced (getD (m .words) i 0) i e)) (record { spans = m .spans; words = set (m .words) i v }) ≡ insertOf m k v
     unfolding insertOf after-insert storedBy storedSaid storedNumbers
     insert-hit q = rw (entry-is, q)
 
-    pub insert-free : {i e u : ℕ} → r ≡ placed.Free i e u → {s : Spans} → s ≡ filled (m .spans) i k → told (storedNumbers (stored.Fresh i u e)) (record { spans = s; words = set (m .words) i v }) ≡ insertOf m k v
+    pub insert-free : {i e u : ℕ} → r ≡ insertPlan.Free i e u → {s : Spans} → s ≡ filled (m .spans) i k → told (storedNumbers (stored.Fresh i u e)) (record { spans = s; words = set (m .words) i v }) ≡ insertOf m k v
     unfolding insertOf after-insert storedBy storedSaid storedNumbers
-    insert-free q x = rw (entry-is, q, x, place-free m k p q .0 .used)
+    insert-free q x = rw (entry-is, q, x, map-plan-insert-free m k p q .0 .used)
 
-    pub insert-refused : {x : Refusal} → r ≡ placed.Refused x → told (storedNumbers (stored.Refused x)) m ≡ insertOf m k v
+    pub insert-refused : {x : Refusal} → r ≡ insertPlan.Refused x → told (storedNumbers (stored.Refused x)) m ≡ insertOf m k v
     unfolding insertOf after-insert storedBy storedSaid storedNumbers
     insert-refused q = rw (entry-is, q)
 
   -- remove, by its plan
-  module _ (k : List ℕ) {r : Located} (p : r ≡ locatingMap m k) where
+  module _ (k : List ℕ) {r : RemovePlan} (p : r ≡ planningMapRemove m k) where
     remove-is : remove maps m k ≡ lostOf (λ i. getD (m .words) i 0) r
     remove-is = rw p (remove-planned m k)
 
-    pub remove-hit : {i e u : ℕ} → r ≡ located.Hit i e u → {s : Spans} → s ≡ emptied (m .spans) i → told (removedNumbers (removed.Removed (getD (m .words) i 0) i e)) (record { spans = s; words = set (m .words) i 0 }) ≡ removeOf maps m k
+    pub remove-hit : {i e u : ℕ} → r ≡ removePlan.Hit i e u → {s : Spans} → s ≡ emptied (m .spans) i → told (removedNumbers (removed.Removed (getD (m .words) i 0) i e)) (record { spans = s; words = set (m .words) i 0 }) ≡ removeOf maps m k
     unfolding removeOf after-remove removedBy removedSaid removedNumbers
     remove-hit q x = rw (remove-is, q, x)
 
-    pub remove-absent : {e : ℕ} → r ≡ located.Absent e → told (removedNumbers (removed.Absent e)) m ≡ removeOf maps m k
+    pub remove-absent : {e : ℕ} → r ≡ removePlan.Absent e → told (removedNumbers (removed.Absent e)) m ≡ removeOf maps m k
     unfolding removeOf after-remove removedBy removedSaid removedNumbers
     remove-absent q = rw (remove-is, q)
 
-    pub remove-refused : {x : Refusal} → r ≡ located.Refused x → told (removedNumbers (removed.Refused x)) m ≡ removeOf maps m k
+    pub remove-refused : {x : Refusal} → r ≡ removePlan.Refused x → told (removedNumbers (removed.Refused x)) m ≡ removeOf maps m k
     unfolding removeOf after-remove removedBy removedSaid removedNumbers
     remove-refused q = rw (remove-is, q)

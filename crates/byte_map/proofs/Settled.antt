@@ -5,7 +5,7 @@ use Rattle.answers.specs.Numbers.{outcomeNumbers, storedNumbers, removedNumbers
 use Rattle.answers.proofs.Equal.{outcomeNumbers-injective, storedNumbers-injective, removedNumbers-injective}
 use Rattle.kinds.specs.Columns.{values}
 use Rattle.kinds.specs.Told.{SettledWith}
-use Rattle.kinds.specs.Calls.{makeOf, removeOf}
+use Rattle.kinds.specs.Calls.{makeOf, copyOf, removeOf}
 use Rattle.kinds.proofs.Settled.{settled-with}
 use Rattle.byte_slots.specs.Memory.{Strings}
 use Rattle.byte_slots.specs.Kinds.{maps, insertOf}
@@ -26,3 +26,7 @@ module _ (m : Strings values) where
   -- `remove`.
   pub remove-settled : (k : List ℕ) → SettledWith removedNumbers (removeOf maps m k)
   remove-settled k = settled-with removedNumbers-injective
+
+  -- `copy`.
+  pub copy-settled : (from : Strings values) → SettledWith outcomeNumbers (copyOf maps m from)
+  copy-settled from = settled-with outcomeNumbers-injective

@@ -1,56 +1,26 @@
-// The calls of a byte map that store, and their plans: byte-string keys in a lent arena, with u64 values. Each contract is one equation with a definition of the theory at this store.
+// The calls of a byte map that store: byte-string keys in a lent arena, with u64 values. Each contract is one equation with a definition of the theory at this store.
 ghost use mathlib.Core.Path.{_≡_};
 ghost use Rattle.answers.specs.Numbers.{outcomeNumbers, storedNumbers, removedNumbers};
 ghost use Rattle.kinds.specs.Told.{told};
-ghost use Rattle.kinds.specs.Calls.{makeOf, removeOf};
+ghost use Rattle.kinds.specs.Calls.{makeOf, copyOf, removeOf};
 ghost use Rattle.byte_slots.specs.Kinds.{maps, insertOf};
 ghost use Rattle.byte_slots.specs.Maps.{before, after};
-ghost use Rattle.byte_map.specs.Planning.{placingMap, locatingMap};
 use answers::Outcome;
 use answers::Refusal;
 use answers::Removed;
 use answers::Stored;
 use arrays::clear_words;
+use arrays::copy_bytes;
+use arrays::copy_shorts;
+use arrays::copy_words;
 use byte_arena::fill;
 use byte_arena::free;
 use byte_arena::wipe;
-use byte_map_reads::map_fits;
-use byte_slots::Located;
-use byte_slots::Placed;
-
-// The plan of insert in a map: refusal 1, then what the plan answers.
-pub fn place(
-    marks: &[u8],
-    offsets: &[u16],
-    lengths: &[u8],
-    values: &[u64],
-    arena: &[u8],
-    key: &[u8],
-) -> Placed
-    ensures { λ r. ⌜ r ≡ placingMap (before marks offsets lengths values arena) (now (key .entry)) ⌝ }
-{
-    if marks.len() == values.len() {
-        return byte_slots::place(marks, offsets, lengths, arena, key);
-    }
-    Placed::Refused(Refusal::Sizes)
-}
-
-// The plan of remove in a map: refusal 1, then what the plan answers.
-pub fn locate(
-    marks: &[u8],
-    offsets: &[u16],
-    lengths: &[u8],
-    values: &[u64],
-    arena: &[u8],
-    key: &[u8],
-) -> Located
-    ensures { λ r. ⌜ r ≡ locatingMap (before marks offsets lengths values arena) (now (key .entry)) ⌝ }
-{
-    if marks.len() == values.len() {
-        return byte_slots::locate(marks, offsets, lengths, arena, key);
-    }
-    Located::Refused(Refusal::Sizes)
-}
+use byte_slots::InsertPlan;
+use byte_slots::RemovePlan;
+use byte_slots::map_fits;
+use byte_slots::map_plan_insert;
+use byte_slots::map_plan_remove;
 
 // Makes an empty map of the lent arrays.
 pub fn make(
@@ -65,9 +35,10 @@ pub fn make(
     if map_fits(marks, offsets, lengths, values, arena) {
         wipe(marks, offsets, lengths, arena);
         clear_words(values);
-        return Outcome::Done;
+        Outcome::Done
+    } else {
+        Outcome::Refused(Refusal::Sizes)
     }
-    Outcome::Refused(Refusal::Sizes)
 }
 
 // Empties a map: every slot becomes never used, every arena byte 0.
@@ -95,19 +66,19 @@ pub fn insert(
 ) -> Stored
     ensures { λ r. ⌜ told (storedNumbers r) (after marks offsets lengths values arena) ≡ insertOf (before marks offsets lengths values arena) (now (key .entry)) value ⌝ }
 {
-    let plan = place(marks, offsets, lengths, values, arena, key);
+    let plan = map_plan_insert(marks, offsets, lengths, values, arena, key);
     match plan {
-        Placed::Hit(slot, examined) => {
+        InsertPlan::Hit(slot, examined) => {
             let old = values[slot];
             values[slot] = value;
             Stored::Replaced(old, slot, examined)
         }
-        Placed::Free(slot, examined, used) => {
+        InsertPlan::Free(slot, examined, used) => {
             fill(marks, offsets, lengths, arena, slot, used, key);
             values[slot] = value;
             Stored::Fresh(slot, used, examined)
         }
-        Placed::Refused(r) => Stored::Refused(r),
+        InsertPlan::Refused(r) => Stored::Refused(r),
     }
 }
 
@@ -122,15 +93,48 @@ pub fn remove(
 ) -> Removed
     ensures { λ r. ⌜ told (removedNumbers r) (after marks offsets lengths values arena) ≡ removeOf maps (before marks offsets lengths values arena) (now (key .entry)) ⌝ }
 {
-    let plan = locate(marks, offsets, lengths, values, arena, key);
+    let plan = map_plan_remove(marks, offsets, lengths, values, arena, key);
     match plan {
-        Located::Hit(slot, examined, used) => {
+        RemovePlan::Hit(slot, examined, used) => {
             let old = values[slot];
             free(marks, offsets, lengths, arena, slot, used);
             values[slot] = 0;
             Removed::Removed(old, slot, examined)
         }
-        Located::Absent(examined) => Removed::Absent(examined),
-        Located::Refused(r) => Removed::Refused(r),
+        RemovePlan::Absent(examined) => Removed::Absent(examined),
+        RemovePlan::Refused(r) => Removed::Refused(r),
     }
+}
+
+// Makes a map equal to another of equal sizes, in every slot and byte.
+pub fn copy(
+    to_marks: &mut [u8],
+    to_offsets: &mut [u16],
+    to_lengths: &mut [u8],
+    to_values: &mut [u64],
+    to_arena: &mut [u8],
+    marks: &[u8],
+    offsets: &[u16],
+    lengths: &[u8],
+    values: &[u64],
+    arena: &[u8],
+) -> Outcome
+    ensures { λ r. ⌜ told (outcomeNumbers r) (after «to_marks» «to_offsets» «to_lengths» «to_values» «to_arena») ≡ copyOf maps (before «to_marks» «to_offsets» «to_lengths» «to_values» «to_arena») (before marks offsets lengths values arena) ⌝ }
+{
+    if to_arena.len() != arena.len() {
+        return Outcome::Refused(Refusal::Sizes);
+    }
+    if map_fits(to_marks, to_offsets, to_lengths, to_values, to_arena) {
+        if map_fits(marks, offsets, lengths, values, arena) {
+            if to_marks.len() == marks.len() {
+                copy_bytes(to_marks, marks);
+                copy_shorts(to_offsets, offsets);
+                copy_bytes(to_lengths, lengths);
+                copy_words(to_values, values);
+                copy_bytes(to_arena, arena);
+                return Outcome::Done;
+            }
+        }
+    }
+    Outcome::Refused(Refusal::Sizes)
 }

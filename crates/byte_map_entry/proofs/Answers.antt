@@ -24,24 +24,24 @@ use Rattle.byte_map_occupied.specs.declared.Held.the-variants as held
 use Rattle.byte_map_occupied.specs.declared.Swapped.{Swapped}
 use Rattle.byte_map_occupied.specs.declared.Swapped.the-variants as swapped
 use Rattle.byte_map_occupied.specs.Numbers.{heldNumbers, swappedNumbers}
-use Rattle.byte_map_vacant.specs.declared.Standing.the-variants as standing
-use Rattle.byte_map_vacant.specs.Numbers.{standingNumbers}
+use Rattle.byte_map_vacant.specs.declared.InSlot.the-variants as inSlot
+use Rattle.byte_map_vacant.specs.Numbers.{inSlotNumbers}
 use Rattle.byte_map_entry.proofs.Entered.{the-type}
 use Rattle.byte_map_entry.specs.declared.Entered.{Entered}
 use Rattle.byte_map_entry.specs.declared.Entered.the-variants as entered
-use Rattle.byte_map_entry.specs.Calls.{placeOf, handleOf}
+use Rattle.byte_map_entry.specs.Calls.{vacantSlotOf, handleOf}
 
 -- an answer that is not vacant counts as slot S
-pub place-other : (S : ℕ) (a : Entered) → (tagOf the-type a ≡ 0) ⊎ (tagOf the-type a ≡ 2) → S ≡ placeOf S a
-unfolding placeOf
-place-other S (entered.Occupied h v e) t = refl
-place-other S (entered.Vacant h e) (inl t) = let z : ⊥ = omega arith in absurd z
-place-other S (entered.Vacant h e) (inr t) = let z : ⊥ = omega arith in absurd z
-place-other S (entered.Refused r) t = refl
+pub vacant-other : (S : ℕ) (a : Entered) → (tagOf the-type a ≡ 0) ⊎ (tagOf the-type a ≡ 2) → S ≡ vacantSlotOf S a
+unfolding vacantSlotOf
+vacant-other S (entered.Occupied h v e) t = refl
+vacant-other S (entered.Vacant h e) (inl t) = let z : ⊥ = omega arith in absurd z
+vacant-other S (entered.Vacant h e) (inr t) = let z : ⊥ = omega arith in absurd z
+vacant-other S (entered.Refused r) t = refl
 
 -- an answer that is not occupied is a vacant handle
-not-occupied : (S : ℕ) (a : Entered) → (tagOf the-type a ≡ 1) ⊎ (tagOf the-type a ≡ 2) → handleOf S a ≡ on-vacant (placeOf S a)
-unfolding handleOf placeOf
+not-occupied : (S : ℕ) (a : Entered) → (tagOf the-type a ≡ 1) ⊎ (tagOf the-type a ≡ 2) → handleOf S a ≡ on-vacant (vacantSlotOf S a)
+unfolding handleOf vacantSlotOf
 not-occupied S (entered.Occupied h v e) (inl t) = let z : ⊥ = omega arith in absurd z
 not-occupied S (entered.Occupied h v e) (inr t) = let z : ⊥ = omega arith in absurd z
 not-occupied S (entered.Vacant h e) t = refl
@@ -70,7 +70,7 @@ swapped-no s (ok w) p q = other-case (rw q at p) refl
 
 module _ (m : Strings values) (k : List ℕ) (v : ℕ) (a : Entered) where
   -- everything but occupied: the vacant handle's insert
-  module _ {s : ℕ} {n : Numbers} {m′ : Strings values} (t : (tagOf the-type a ≡ 1) ⊎ (tagOf the-type a ≡ 2)) (p : s ≡ placeOf (length (m .spans .marks)) a) (q : told n m′ ≡ standingOf maps m s k v) where
+  module _ {s : ℕ} {n : Numbers} {m′ : Strings values} (t : (tagOf the-type a ≡ 1) ⊎ (tagOf the-type a ≡ 2)) (p : s ≡ vacantSlotOf (length (m .spans .marks)) a) (q : told n m′ ≡ standingOf maps m s k v) where
     pub or-insert-vacant : told n m′ ≡ orInsertOf maps m (handleOf (length (m .spans .marks)) a) k v
     unfolding orInsertOf standingOf or-insert after-or-insert slotOf
     or-insert-vacant = rw (not-occupied (length (m .spans .marks)) a t, ← p) q
@@ -86,20 +86,20 @@ module _ (m : Strings values) (k : List ℕ) (v : ℕ) (a : Entered) where
 
     -- occupied: the handle's get
     module _ {r : Held} (p : heldNumbers r ≡ heldOf maps m (h .slot) k) where
-      pub or-insert-kept : {x : ℕ} {g : Occupied} → r ≡ held.Value x g → told (standingNumbers (standing.Now h x)) m ≡ orInsertOf maps m (handleOf (length (m .spans .marks)) a) k v
-      unfolding heldOf orInsertOf or-insert after-or-insert slotOf standingNumbers standingSaid
+      pub or-insert-kept : {x : ℕ} {g : Occupied} → r ≡ held.Value x g → told (inSlotNumbers (inSlot.Now h x)) m ≡ orInsertOf maps m (handleOf (length (m .spans .marks)) a) k v
+      unfolding heldOf orInsertOf or-insert after-or-insert slotOf inSlotNumbers standingSaid
       or-insert-kept q = rw (on, held-ok (h .slot) (occupied-get maps m (h .slot) k) p q)
 
-      pub or-insert-refused : {x : Refusal} → r ≡ held.Refused x → told (standingNumbers (standing.Refused x)) m ≡ orInsertOf maps m (handleOf (length (m .spans .marks)) a) k v
-      unfolding heldOf orInsertOf or-insert after-or-insert slotOf standingNumbers standingSaid
+      pub or-insert-refused : {x : Refusal} → r ≡ held.Refused x → told (inSlotNumbers (inSlot.Refused x)) m ≡ orInsertOf maps m (handleOf (length (m .spans .marks)) a) k v
+      unfolding heldOf orInsertOf or-insert after-or-insert slotOf inSlotNumbers standingSaid
       or-insert-refused q = rw (on, held-no (h .slot) (occupied-get maps m (h .slot) k) p q)
 
     -- or its set
     module _ {r : Swapped} {m′ : Strings values} (p : told (swappedNumbers r) m′ ≡ setOf maps m (h .slot) k v) where
-      pub insert-entry-set : {x : ℕ} {g : Occupied} → r ≡ swapped.Was x g → told (standingNumbers (standing.Now h v)) m′ ≡ insertEntryOf maps m (handleOf (length (m .spans .marks)) a) k v
-      unfolding setOf insertEntryOf insert-entry after-insert-entry slotOf give standingNumbers standingSaid
+      pub insert-entry-set : {x : ℕ} {g : Occupied} → r ≡ swapped.Was x g → told (inSlotNumbers (inSlot.Now h v)) m′ ≡ insertEntryOf maps m (handleOf (length (m .spans .marks)) a) k v
+      unfolding setOf insertEntryOf insert-entry after-insert-entry slotOf give inSlotNumbers standingSaid
       insert-entry-set q = rw on (retold (rw (swapped-ok (h .slot) (occupied-get maps m (h .slot) k) (said p) q)) (left p))
 
-      pub insert-entry-refused : {x : Refusal} → r ≡ swapped.Refused x → told (standingNumbers (standing.Refused x)) m′ ≡ insertEntryOf maps m (handleOf (length (m .spans .marks)) a) k v
-      unfolding setOf insertEntryOf insert-entry after-insert-entry slotOf give standingNumbers standingSaid
+      pub insert-entry-refused : {x : Refusal} → r ≡ swapped.Refused x → told (inSlotNumbers (inSlot.Refused x)) m′ ≡ insertEntryOf maps m (handleOf (length (m .spans .marks)) a) k v
+      unfolding setOf insertEntryOf insert-entry after-insert-entry slotOf give inSlotNumbers standingSaid
       insert-entry-refused q = rw on (retold (rw (swapped-no (h .slot) (occupied-get maps m (h .slot) k) (said p) q)) (left p))

@@ -1,5 +1,5 @@
 -- The laws of the byte map's entries.
 pub mod Equal
-pub mod Places
+pub mod Plans
 pub mod Answers
 pub mod Settled

@@ -8,8 +8,8 @@ use Rattle.kinds.specs.Told.{Settled, SettledWith}
 use Rattle.kinds.proofs.Settled.{settled, settled-with}
 use Rattle.byte_slots.specs.Kinds.{maps}
 use Rattle.byte_slots.specs.Memory.{Strings}
-use Rattle.byte_map_vacant.specs.Numbers.{standingNumbers}
-use Rattle.byte_map_vacant.proofs.Equal.{standingNumbers-injective}
+use Rattle.byte_map_vacant.specs.Numbers.{inSlotNumbers}
+use Rattle.byte_map_vacant.proofs.Equal.{inSlotNumbers-injective}
 use Rattle.byte_map_entry.specs.declared.Entered.{Entered}
 use Rattle.byte_map_entry.specs.Numbers.{enteredNumbers}
 use Rattle.byte_map_entry.specs.Calls.{handleOf}
@@ -21,9 +21,9 @@ module _ (m : Strings values) where
   entry-settled k = settled enteredNumbers-injective
 
   -- `Entered::or_insert`.
-  pub or-insert-settled : (e : Entered) (k : List ℕ) (v : ℕ) → SettledWith standingNumbers (orInsertOf maps m (handleOf (length (m .spans .marks)) e) k v)
-  or-insert-settled e k v = settled-with standingNumbers-injective
+  pub or-insert-settled : (e : Entered) (k : List ℕ) (v : ℕ) → SettledWith inSlotNumbers (orInsertOf maps m (handleOf (length (m .spans .marks)) e) k v)
+  or-insert-settled e k v = settled-with inSlotNumbers-injective
 
   -- `Entered::insert_entry`.
-  pub insert-entry-settled : (e : Entered) (k : List ℕ) (v : ℕ) → SettledWith standingNumbers (insertEntryOf maps m (handleOf (length (m .spans .marks)) e) k v)
-  insert-entry-settled e k v = settled-with standingNumbers-injective
+  pub insert-entry-settled : (e : Entered) (k : List ℕ) (v : ℕ) → SettledWith inSlotNumbers (insertEntryOf maps m (handleOf (length (m .spans .marks)) e) k v)
+  insert-entry-settled e k v = settled-with inSlotNumbers-injective

@@ -6,22 +6,22 @@ ghost use Rattle.kinds.specs.Handing.{Hands};
 ghost use Rattle.kinds.specs.Told.{told};
 ghost use Rattle.byte_slots.specs.Kinds.{maps};
 ghost use Rattle.byte_slots.specs.Maps.{before, after};
-ghost use Rattle.byte_map_vacant.specs.Numbers.{standingNumbers};
+ghost use Rattle.byte_map_vacant.specs.Numbers.{inSlotNumbers};
 ghost use Rattle.byte_map_entry.specs.Numbers.{enteredNumbers};
-ghost use Rattle.byte_map_entry.specs.Calls.{placeOf, handleOf};
+ghost use Rattle.byte_map_entry.specs.Calls.{vacantSlotOf, handleOf};
 use answers::Numbers;
 use answers::Refusal;
 use answers::case_numbers;
 use answers::refusal_numbers;
-use byte_map::place;
-use byte_slots::Placed;
+use byte_slots::InsertPlan;
+use byte_slots::map_plan_insert;
 
 // The handles and the answers of their calls stand in `byte_map_occupied` and `byte_map_vacant`, and are had here too.
 pub use byte_map_occupied::Held;
 pub use byte_map_occupied::Occupied;
 pub use byte_map_occupied::Swapped;
 pub use byte_map_occupied::Taken;
-pub use byte_map_vacant::Standing;
+pub use byte_map_vacant::InSlot;
 pub use byte_map_vacant::Vacant;
 
 // The answer of entry: an occupied handle with the value, or a vacant one, each with the examined number.
@@ -42,23 +42,27 @@ pub fn entry(
 ) -> Entered
     ensures { λ r. ⌜ enteredNumbers r ≡ entryOf maps (before marks offsets lengths values arena) (now (key .entry)) ⌝ }
 {
-    let plan = place(marks, offsets, lengths, values, arena, key);
+    let plan = map_plan_insert(marks, offsets, lengths, values, arena, key);
     match plan {
-        Placed::Hit(slot, examined) => Entered::Occupied(Occupied { slot }, values[slot], examined),
-        Placed::Free(slot, examined, _) => Entered::Vacant(Vacant { slot }, examined),
-        Placed::Refused(r) => Entered::Refused(r),
+        InsertPlan::Hit(slot, examined) => Entered::Occupied(
+            Occupied { slot },
+            values[slot],
+            examined,
+        ),
+        InsertPlan::Free(slot, examined, _) => Entered::Vacant(Vacant { slot }, examined),
+        InsertPlan::Refused(r) => Entered::Refused(r),
     }
 }
 
 impl Entered {
     // The vacant handle of an answer that is not occupied; a refused one counts as a handle of slot S.
-    fn place(self, size: usize) -> Vacant
-        ensures { λ r. ⌜ r .slot ≡ placeOf size self ⌝ }
+    fn vacant(self, size: usize) -> Vacant
+        ensures { λ r. ⌜ r .slot ≡ vacantSlotOf size self ⌝ }
     {
-        let Entered::Vacant(place, _) = self else {
+        let Entered::Vacant(vacant, _) = self else {
             return Vacant { slot: size };
         };
-        place
+        vacant
     }
 
     // Keeps a present value, else puts the default in; the value now in the slot is answered.
@@ -71,17 +75,17 @@ impl Entered {
         arena: &mut [u8],
         key: &[u8],
         default: u64,
-    ) -> Standing
-        ensures { λ r. ⌜ told (standingNumbers r) (after marks offsets lengths values arena) ≡ orInsertOf maps (before marks offsets lengths values arena) (handleOf (length (now (marks .entry))) self) (now (key .entry)) default ⌝ }
+    ) -> InSlot
+        ensures { λ r. ⌜ told (inSlotNumbers r) (after marks offsets lengths values arena) ≡ orInsertOf maps (before marks offsets lengths values arena) (handleOf (length (now (marks .entry))) self) (now (key .entry)) default ⌝ }
     {
         let Entered::Occupied(handle, _, _) = self else {
-            return self.place(marks.len())
+            return self.vacant(marks.len())
                 .insert(marks, offsets, lengths, values, arena, key, default);
         };
         let held = handle.get(marks, offsets, lengths, values, arena, key);
         match held {
-            Held::Value(value, _) => Standing::Now(handle, value),
-            Held::Refused(r) => Standing::Refused(r),
+            Held::Value(value, _) => InSlot::Now(handle, value),
+            Held::Refused(r) => InSlot::Refused(r),
         }
     }
 
@@ -95,17 +99,17 @@ impl Entered {
         arena: &mut [u8],
         key: &[u8],
         value: u64,
-    ) -> Standing
-        ensures { λ r. ⌜ told (standingNumbers r) (after marks offsets lengths values arena) ≡ insertEntryOf maps (before marks offsets lengths values arena) (handleOf (length (now (marks .entry))) self) (now (key .entry)) value ⌝ }
+    ) -> InSlot
+        ensures { λ r. ⌜ told (inSlotNumbers r) (after marks offsets lengths values arena) ≡ insertEntryOf maps (before marks offsets lengths values arena) (handleOf (length (now (marks .entry))) self) (now (key .entry)) value ⌝ }
     {
         let Entered::Occupied(handle, _, _) = self else {
-            return self.place(marks.len())
+            return self.vacant(marks.len())
                 .insert(marks, offsets, lengths, values, arena, key, value);
         };
         let swapped = handle.set(marks, offsets, lengths, values, arena, key, value);
         match swapped {
-            Swapped::Was(_, _) => Standing::Now(handle, value),
-            Swapped::Refused(r) => Standing::Refused(r),
+            Swapped::Was(_, _) => InSlot::Now(handle, value),
+            Swapped::Refused(r) => InSlot::Refused(r),
         }
     }
 }

@@ -1,5 +1,5 @@
 -- The laws of the byte map's occupied handles.
 pub mod Equal
-pub mod Grips
-pub mod Pulls
+pub mod Values
+pub mod Removals
 pub mod Settled

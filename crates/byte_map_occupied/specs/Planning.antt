@@ -11,11 +11,11 @@ use Rattle.kinds.specs.Columns.{values}
 use Rattle.byte_slots.specs.Kinds.{maps}
 use Rattle.byte_slots.specs.Memory.{Strings, usedOf, harmful, askedOf}
 use Rattle.byte_slots.specs.Probing.{sightAt}
-use Rattle.byte_map_reads.specs.Seeking.{sizedOf}
+use Rattle.kinds.specs.Calls.{sizedOf}
 use Rattle.byte_map_occupied.specs.declared.Held.{Held}
 use Rattle.byte_map_occupied.specs.declared.Held.the-variants as held
-use Rattle.byte_map_occupied.specs.declared.Pulled.{Pulled}
-use Rattle.byte_map_occupied.specs.declared.Pulled.the-variants as pulled
+use Rattle.byte_map_occupied.specs.declared.RemovalPlan.{RemovalPlan}
+use Rattle.byte_map_occupied.specs.declared.RemovalPlan.the-variants as removalPlan
 
 -- What an occupied handle of the slot i, with the value v in it, holds by the look at the slot.
 unfoldable pub heldBy : ℕ → ℕ → Sight → Held
@@ -26,26 +26,26 @@ heldBy i v Same = held.Value v (record { slot = i })
 heldBy i v Other = held.Refused refusal.BadHandle
 
 -- The same of any slot number: a handle of S or above is not good.
-unfoldable pub gripping : Strings values → ℕ → List ℕ → Held
-gripping m i k = cond (ltb i (length (m .spans .marks))) (heldBy i (getD (m .words) i 0) (sightAt (m .spans) k i)) (held.Refused refusal.BadHandle)
+unfoldable pub valueIn : Strings values → ℕ → List ℕ → Held
+valueIn m i k = cond (ltb i (length (m .spans .marks))) (heldBy i (getD (m .words) i 0) (sightAt (m .spans) k i)) (held.Refused refusal.BadHandle)
 
 -- The plan of an occupied handle's get and set: refusals 1 and 2, then what the slot says.
-unfoldable pub holding : Strings values → ℕ → List ℕ → Held
-holding m i k =
+unfoldable pub valueFor : Strings values → ℕ → List ℕ → Held
+valueFor m i k =
     cond (sizedOf maps m)
-    (cond (eqb (askedOf k) 0) (gripping m i k) (held.Refused refusal.LongKey))
+    (cond (eqb (askedOf k) 0) (valueIn m i k) (held.Refused refusal.LongKey))
     (held.Refused refusal.Sizes)
 
 -- What a removal makes of a handle's test, where u bytes are used.
-unfoldable pub pulledBy : ℕ → Held → Pulled
-pulledBy u (held.Value v h) = pulled.Out v u
-pulledBy u (held.Refused r) = pulled.Refused r
+unfoldable pub removalPlanBy : ℕ → Held → RemovalPlan
+removalPlanBy u (held.Value v h) = removalPlan.Out v u
+removalPlanBy u (held.Refused r) = removalPlan.Refused r
 
 -- The plan of an occupied handle's removal: refusals 1, 2 and 5, then what the slot says.
-unfoldable pub pulling : Strings values → ℕ → List ℕ → Pulled
-pulling m i k =
+unfoldable pub planningRemoval : Strings values → ℕ → List ℕ → RemovalPlan
+planningRemoval m i k =
     cond (sizedOf maps m)
     (cond (eqb (askedOf k) 0)
-    (cond (harmful (m .spans)) (pulled.Refused refusal.Damaged) (pulledBy (usedOf (m .spans)) (gripping m i k)))
-    (pulled.Refused refusal.LongKey))
-    (pulled.Refused refusal.Sizes)
+    (cond (harmful (m .spans)) (removalPlan.Refused refusal.Damaged) (removalPlanBy (usedOf (m .spans)) (valueIn m i k)))
+    (removalPlan.Refused refusal.LongKey))
+    (removalPlan.Refused refusal.Sizes)

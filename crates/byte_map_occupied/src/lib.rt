@@ -6,13 +6,13 @@ ghost use Rattle.kinds.specs.Told.{told};
 ghost use Rattle.byte_slots.specs.Kinds.{maps};
 ghost use Rattle.byte_slots.specs.Maps.{before, after};
 ghost use Rattle.byte_map_occupied.specs.Numbers.{heldNumbers, swappedNumbers, takenNumbers};
-ghost use Rattle.byte_map_occupied.specs.Planning.{heldBy, gripping, holding, pulledBy, pulling};
+ghost use Rattle.byte_map_occupied.specs.Planning.{heldBy, valueIn, valueFor, removalPlanBy, planningRemoval};
 use answers::Numbers;
 use answers::Refusal;
 use answers::case_numbers;
 use answers::refusal_numbers;
-use byte_map_reads::map_fits;
 use byte_slots::Surveyed;
+use byte_slots::map_fits;
 use kinds::Sight;
 
 // A handle of a slot that holds a key.
@@ -39,7 +39,7 @@ pub enum Taken {
 }
 
 // The plan of an occupied handle's removal: the value and `used`, or a refusal.
-pub enum Pulled {
+pub enum RemovalPlan {
     Out(u64, usize),
     Refused(Refusal),
 }
@@ -58,7 +58,7 @@ fn held_by(sight: Sight, slot: usize, value: u64) -> Held
 }
 
 // What an occupied handle of this slot holds for the key, where sizes fit.
-fn grip(
+fn value_in(
     marks: &[u8],
     offsets: &[u16],
     lengths: &[u8],
@@ -68,7 +68,7 @@ fn grip(
     key: &[u8],
 ) -> Held
     requires { ⌜ (length (now offsets) ≡ length (now marks)) × (length (now lengths) ≡ length (now marks)) × (length (now values) ≡ length (now marks)) ⌝ }
-    ensures { λ r. ⌜ r ≡ gripping (before marks offsets lengths values arena) slot (now (key .entry)) ⌝ }
+    ensures { λ r. ⌜ r ≡ valueIn (before marks offsets lengths values arena) slot (now (key .entry)) ⌝ }
 {
     if slot < marks.len() {
         let sight = byte_slots::look(marks, offsets, lengths, arena, slot, key);
@@ -78,7 +78,7 @@ fn grip(
 }
 
 // The plan of an occupied handle's get and set: the value in the slot, or a refusal.
-fn hold(
+fn value_of(
     marks: &[u8],
     offsets: &[u16],
     lengths: &[u8],
@@ -87,11 +87,11 @@ fn hold(
     slot: usize,
     key: &[u8],
 ) -> Held
-    ensures { λ r. ⌜ r ≡ holding (before marks offsets lengths values arena) slot (now (key .entry)) ⌝ }
+    ensures { λ r. ⌜ r ≡ valueFor (before marks offsets lengths values arena) slot (now (key .entry)) ⌝ }
 {
     if map_fits(marks, offsets, lengths, values, arena) {
         if byte_slots::may_ask(key) {
-            return grip(marks, offsets, lengths, values, arena, slot, key);
+            return value_in(marks, offsets, lengths, values, arena, slot, key);
         }
         return Held::Refused(Refusal::LongKey);
     }
@@ -99,17 +99,17 @@ fn hold(
 }
 
 // What a removal makes of a handle's test, where so many bytes are used.
-fn pulled_by(held: Held, used: usize) -> Pulled
-    ensures { λ r. ⌜ r ≡ pulledBy used held ⌝ }
+fn removal_plan_by(held: Held, used: usize) -> RemovalPlan
+    ensures { λ r. ⌜ r ≡ removalPlanBy used held ⌝ }
 {
     match held {
-        Held::Value(value, _) => Pulled::Out(value, used),
-        Held::Refused(r) => Pulled::Refused(r),
+        Held::Value(value, _) => RemovalPlan::Out(value, used),
+        Held::Refused(r) => RemovalPlan::Refused(r),
     }
 }
 
 // The plan of an occupied handle's removal: every slot is examined, then the handle's.
-fn pull(
+fn plan_removal(
     marks: &[u8],
     offsets: &[u16],
     lengths: &[u8],
@@ -117,23 +117,23 @@ fn pull(
     arena: &[u8],
     slot: usize,
     key: &[u8],
-) -> Pulled
-    ensures { λ r. ⌜ r ≡ pulling (before marks offsets lengths values arena) slot (now (key .entry)) ⌝ }
+) -> RemovalPlan
+    ensures { λ r. ⌜ r ≡ planningRemoval (before marks offsets lengths values arena) slot (now (key .entry)) ⌝ }
 {
     if map_fits(marks, offsets, lengths, values, arena) {
         if byte_slots::may_ask(key) {
             let found = byte_slots::survey(marks, offsets, lengths, arena);
             match found {
                 Surveyed::Used(used) => {
-                    let held = grip(marks, offsets, lengths, values, arena, slot, key);
-                    return pulled_by(held, used);
+                    let held = value_in(marks, offsets, lengths, values, arena, slot, key);
+                    return removal_plan_by(held, used);
                 }
-                Surveyed::Bad => return Pulled::Refused(Refusal::Damaged),
+                Surveyed::Bad => return RemovalPlan::Refused(Refusal::Damaged),
             }
         }
-        return Pulled::Refused(Refusal::LongKey);
+        return RemovalPlan::Refused(Refusal::LongKey);
     }
-    Pulled::Refused(Refusal::Sizes)
+    RemovalPlan::Refused(Refusal::Sizes)
 }
 
 impl Occupied {
@@ -149,7 +149,7 @@ impl Occupied {
     ) -> Held
         ensures { λ r. ⌜ heldNumbers r ≡ heldOf maps (before marks offsets lengths values arena) (self .slot) (now (key .entry)) ⌝ }
     {
-        hold(marks, offsets, lengths, values, arena, self.slot, key)
+        value_of(marks, offsets, lengths, values, arena, self.slot, key)
     }
 
     // Gives the slot another value; the old one is answered.
@@ -166,7 +166,7 @@ impl Occupied {
         ensures { λ r. ⌜ told (swappedNumbers r) (after marks offsets lengths values arena) ≡ setOf maps (before marks offsets lengths values arena) (self .slot) (now (key .entry)) value ⌝ }
     {
         let slot = self.slot;
-        let held = hold(marks, offsets, lengths, values, arena, slot, key);
+        let held = value_of(marks, offsets, lengths, values, arena, slot, key);
         match held {
             Held::Value(old, _) => {
                 values[slot] = value;
@@ -189,14 +189,14 @@ impl Occupied {
         ensures { λ r. ⌜ told (takenNumbers r) (after marks offsets lengths values arena) ≡ takenOf maps (before marks offsets lengths values arena) (self .slot) (now (key .entry)) ⌝ }
     {
         let slot = self.slot;
-        let plan = pull(marks, offsets, lengths, values, arena, slot, key);
+        let plan = plan_removal(marks, offsets, lengths, values, arena, slot, key);
         match plan {
-            Pulled::Out(old, used) => {
+            RemovalPlan::Out(old, used) => {
                 values[slot] = 0;
                 byte_arena::free(marks, offsets, lengths, arena, slot, used);
                 Taken::Removed(old)
             }
-            Pulled::Refused(r) => Taken::Refused(r),
+            RemovalPlan::Refused(r) => Taken::Refused(r),
         }
     }
 

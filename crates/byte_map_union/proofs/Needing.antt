@@ -18,7 +18,7 @@ use Rattle.byte_slots.specs.Marks.{markAt}
 use Rattle.byte_slots.specs.Probing.{pathOf, probing}
 use Rattle.byte_slots.proofs.Marks.{slot-cell, live-within, live-key}
 use Rattle.byte_map_union.specs.declared.Needed.{Needed}
-use Rattle.byte_map_union.specs.Needs.{missing, neededBy, lackOf, lackAt, lacksOf}
+use Rattle.byte_map_union.specs.Needs.{missing, neededBy, lackOf, slotNeeds, tableNeeds}
 
 -- a short key may be asked for
 asked-short : (k : List ℕ) → length k ≤ 255 → eqb (askedOf k) 0 ≡ true
@@ -58,17 +58,17 @@ abbrev nothing : Needed
 nothing = record { slots = 0; bytes = 0 }
 
 -- what a slot needs, and that it is little
-abbrev pub Lacked : Spans → Spans → ℕ → Needed → Type 0
-Lacked l r i x = (x ≡ lackAt l r i) × (x .slots ≤ 1) × (x .bytes ≤ 255)
+abbrev pub NeededAt : Spans → Spans → ℕ → Needed → Type 0
+NeededAt l r i x = (x ≡ slotNeeds l r i) × (x .slots ≤ 1) × (x .bytes ≤ 255)
 
 module _ (l r : Spans) (i : ℕ) {m : ℕ} (p : m ≡ markAt r i) where
-  pub lack-idle : (m ≡ 1 → ⊥) → Lacked l r i nothing
-  unfolding lackAt
-  lack-idle h = (rw (slot-cell r (λ j. tt {0}) i, weigh-idle (lackOf l (λ k. 1)) (markAt r i) (keyAt r i) (λ e. h (p ∙ e)), weigh-idle (lackOf l length) (markAt r i) (keyAt r i) (λ e. h (p ∙ e))), omega arith, omega arith)
+  pub slot-needs-none : (m ≡ 1 → ⊥) → NeededAt l r i nothing
+  unfolding slotNeeds
+  slot-needs-none h = (rw (slot-cell r (λ j. tt {0}) i, weigh-idle (lackOf l (λ k. 1)) (markAt r i) (keyAt r i) (λ e. h (p ∙ e)), weigh-idle (lackOf l length) (markAt r i) (keyAt r i) (λ e. h (p ∙ e))), omega arith, omega arith)
 
-  pub lack-live : {o n : ℕ} {s : Probed} {x : Needed} → m ≡ 1 → o ≡ getD (r .offsets) i 0 → n ≡ getD (r .lengths) i 0 → n ≤ 255 → fitting l ≡ true → s ≡ probing l (take (o + n - o) (drop o (r .arena))) → x ≡ neededBy s n → Lacked l r i x
-  unfolding lackAt lackOf weigh cell neededBy
-  lack-live {o} {n} {s} {x} one q w b f e d =
+  pub slot-needs-key : {o n : ℕ} {s : Probed} {x : Needed} → m ≡ 1 → o ≡ getD (r .offsets) i 0 → n ≡ getD (r .lengths) i 0 → n ≤ 255 → fitting l ≡ true → s ≡ probing l (take (o + n - o) (drop o (r .arena))) → x ≡ neededBy s n → NeededAt l r i x
+  unfolding slotNeeds lackOf weigh cell neededBy
+  slot-needs-key {o} {n} {s} {x} one q w b f e d =
       let k = keyAt r i in
       let z : length k ≡ n = span-length r i p one q w in
       let y : s ≡ pathOf l k = probed-path l k f (omega arith) (e ∙ (rw (span-key r i p one q w))) in
@@ -79,16 +79,16 @@ pub record Needing (l r : Spans) (slots bytes i : ℕ) : Type 0 where
   pub within : i ≤ length (r .marks)
   pub few : slots ≤ i
   pub little : bytes ≤ 255 * i
-  pub slots-are : slots ≡ lacksOf l r i .slots
-  pub bytes-are : bytes ≡ lacksOf l r i .bytes
+  pub slots-are : slots ≡ tableNeeds l r i .slots
+  pub bytes-are : bytes ≡ tableNeeds l r i .bytes
 
 pub need-start : (l r : Spans) → Needing l r 0 0 0
-unfolding lacksOf total
+unfolding tableNeeds total
 need-start l r = record { within = omega arith; few = omega arith; little = omega arith; slots-are = refl; bytes-are = refl }
 
 module _ {l r : Spans} {slots bytes i : ℕ} (w : Needing l r slots bytes i) where
-  pub need-more : {x : Needed} → i < length (r .marks) → Lacked l r i x → Needing l r (slots + x .slots) (bytes + x .bytes) (i + 1)
-  unfolding lacksOf lackAt total
+  pub need-more : {x : Needed} → i < length (r .marks) → NeededAt l r i x → Needing l r (slots + x .slots) (bytes + x .bytes) (i + 1)
+  unfolding tableNeeds slotNeeds total
   need-more {x} b (e, s, t) = record {
     within = omega arith;
     few = omega (arith, w .few);
@@ -97,6 +97,6 @@ module _ {l r : Spans} {slots bytes i : ℕ} (w : Needing l r slots bytes i) whe
     bytes-are = rw (add-one, e, w .bytes-are);
   }
 
-  pub need-end : length (r .marks) ≤ i → record { slots = slots; bytes = bytes } ≡ lacksOf l r (length (r .marks))
-  unfolding lacksOf
+  pub need-end : length (r .marks) ≤ i → record { slots = slots; bytes = bytes } ≡ tableNeeds l r (length (r .marks))
+  unfolding tableNeeds
   need-end b = let e : length (r .marks) ≡ i = omega arith in rw (e, w .slots-are, w .bytes-are)

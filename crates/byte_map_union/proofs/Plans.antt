@@ -23,9 +23,9 @@ use Rattle.byte_slots.proofs.Bridge.{path-is, used-is}
 use Rattle.byte_slots.proofs.Held.{bare-damaged, unharmed-whole}
 use Rattle.byte_slots.proofs.Marks.{slot-cell}
 use Rattle.byte_slots.proofs.Sizes.{fitting-says}
-use Rattle.byte_map_reads.specs.Seeking.{sizedOf}
+use Rattle.kinds.specs.Calls.{sizedOf}
 use Rattle.byte_map_union.specs.declared.Planned.the-variants.{Refused}
-use Rattle.byte_map_union.specs.Needs.{missing, lackOf, lacksOf, roomOf, planned, planOf}
+use Rattle.byte_map_union.specs.Needs.{missing, lackOf, tableNeeds, roomOf, planned, planOf}
 
 -- right sizes: few slots
 pub few-slots : (s : Spans) → fitting s ≡ true → length (s .marks) ≤ 4096
@@ -92,5 +92,5 @@ module _ (l r : Strings values) {b : Bool} (p : b ≡ sizedOf maps l) where
 
     -- the rest of the tests
     pub room-plan : {o : Or ℕ} → c ≡ true → o ≡ roomOf (l .spans) (r .spans) → o ≡ planOf l r
-    unfolding planOf roomOf lacksOf union need give sizedOf
+    unfolding planOf roomOf tableNeeds union need give sizedOf
     room-plan t e = e ∙ (rw (sym p ∙ q, sym s ∙ t, ruined-is l, ruined-is r, needs-are (λ k. 1) l r, needs-are length l r, live-is l, used-is values l, give-need, give-need, give-need, give-need))

@@ -23,7 +23,7 @@ use Rattle.byte_slots.proofs.Marks.{mark-raw, slot-cell}
 use Rattle.byte_slots.proofs.Plans.{surveyed-bad, surveyed-used, used-within}
 use Rattle.byte_map_union.specs.declared.Needed.{Needed}
 use Rattle.byte_map_union.specs.declared.Planned.the-variants.{Go, Refused}
-use Rattle.byte_map_union.specs.Needs.{lacksOf, livesOf, planned, roomOf}
+use Rattle.byte_map_union.specs.Needs.{tableNeeds, liveMarks, planned, roomOf}
 
 -- a mark counts what its slot weighs
 cell-counts : (m : ℕ) (k : List ℕ) → weigh (λ x. 1) (cell m k (tt {0})) ≡ counted m
@@ -41,8 +41,8 @@ whole-mark s i h = by-lt 2 (markAt s i)
     (λ l e. mark-raw s i l)
 
 -- so where none is damaged, the marks count the live slots
-marks-count : (s : Spans) (n : ℕ) → damaged (bare s) n ≡ false → count (bare s) n ≡ livesOf (s .marks) n
-unfolding total damaged livesOf
+marks-count : (s : Spans) (n : ℕ) → damaged (bare s) n ≡ false → count (bare s) n ≡ liveMarks (s .marks) n
+unfolding total damaged liveMarks
 marks-count s zero h = refl
 marks-count s (suc n) h = by-bool (hurts (bare s n))
     (λ e. let z : true ≡ false = rw e at h in clash cc)
@@ -52,27 +52,27 @@ marks-count s (suc n) h = by-bool (hurts (bare s n))
 pub record Counting (marks : List ℕ) (live i : ℕ) : Type 0 where
   pub low : live ≤ i
   pub within : i ≤ length marks
-  pub lives : live ≡ livesOf marks i
+  pub lives : live ≡ liveMarks marks i
 
 pub count-start : (marks : List ℕ) → Counting marks 0 0
-unfolding livesOf
+unfolding liveMarks
 count-start marks = record { low = omega arith; within = omega arith; lives = refl }
 
 module _ {marks : List ℕ} {live i : ℕ} (w : Counting marks live i) where
   pub count-more : {r : ℕ} → i < length marks → r ≡ counted (getD marks i 0) → Counting marks (live + r) (i + 1)
-  unfolding livesOf
+  unfolding liveMarks
   count-more l e = record { low = omega (arith, counted-low (getD marks i 0) e); within = omega arith; lives = rw (add-one, e, w .lives) }
 
-  pub count-end : length marks ≤ i → live ≡ livesOf marks (length marks)
+  pub count-end : length marks ≤ i → live ≡ liveMarks marks (length marks)
   count-end l = let e : length marks ≡ i = omega (arith, w .within) in rw e (w .lives)
 
-lives-low : (marks : List ℕ) (n : ℕ) → livesOf marks n ≤ n
-unfolding livesOf
-lives-low marks zero = omega arith
-lives-low marks (suc n) = omega (arith, lives-low marks n, counted-low (getD marks n 0) refl)
+live-marks-low : (marks : List ℕ) (n : ℕ) → liveMarks marks n ≤ n
+unfolding liveMarks
+live-marks-low marks zero = omega arith
+live-marks-low marks (suc n) = omega (arith, live-marks-low marks n, counted-low (getD marks n 0) refl)
 
-pub lives-within : (marks : List ℕ) {n : ℕ} → n ≡ livesOf marks (length marks) → n ≤ length marks
-lives-within marks e = omega (arith, lives-low marks (length marks))
+pub live-marks-within : (marks : List ℕ) {n : ℕ} → n ≡ liveMarks marks (length marks) → n ≤ length marks
+live-marks-within marks e = omega (arith, live-marks-low marks (length marks))
 
 -- the bytes that a survey found are in the arena
 pub used-inside : (s : Spans) {x : Surveyed} {u : ℕ} → x ≡ surveying s → x ≡ surveyed.Used u → u ≤ length (s .arena)
@@ -90,22 +90,22 @@ module _ (l r : Spans) {x : Surveyed} (p : x ≡ surveying l) where
     unfolding planned roomOf need
     right-bad t = rw (surveyed-used l p q .0, surveyed-bad r s t)
 
-    module _ {v n : ℕ} {a : Needed} (t : y ≡ surveyed.Used v) (w : n ≡ livesOf (l .marks) (length (l .marks))) (e : a ≡ lacksOf l r (length (r .marks))) where
-      lives-are : count (bare l) (length (l .marks)) ≡ n
-      lives-are = marks-count l (length (l .marks)) (unharmed-whole l (surveyed-used l p q .0)) ∙ sym w
+    module _ {v n : ℕ} {a : Needed} (t : y ≡ surveyed.Used v) (w : n ≡ liveMarks (l .marks) (length (l .marks))) (e : a ≡ tableNeeds l r (length (r .marks))) where
+      live-marks-are : count (bare l) (length (l .marks)) ≡ n
+      live-marks-are = marks-count l (length (l .marks)) (unharmed-whole l (surveyed-used l p q .0)) ∙ sym w
 
       -- too few slots
       pub room-slots : length (l .marks) - n < a .slots → planned (Refused NoSlot) ≡ roomOf l r
       unfolding planned roomOf need
-      room-slots h = rw (surveyed-used l p q .0, surveyed-used r s t .0, ← e, lives-are, lt-leb (a .slots) (length (l .marks) - n) h)
+      room-slots h = rw (surveyed-used l p q .0, surveyed-used r s t .0, ← e, live-marks-are, lt-leb (a .slots) (length (l .marks) - n) h)
 
       module _ (h : a .slots ≤ length (l .marks) - n) where
         -- too few bytes
         pub room-bytes : length (l .arena) - u < a .bytes → planned (Refused NoBytes) ≡ roomOf l r
         unfolding planned roomOf need
-        room-bytes i = rw (surveyed-used l p q .0, surveyed-used r s t .0, ← e, lives-are, le-leb (a .slots) (length (l .marks) - n) h, ← surveyed-used l p q .1, lt-leb (a .bytes) (length (l .arena) - u) i)
+        room-bytes i = rw (surveyed-used l p q .0, surveyed-used r s t .0, ← e, live-marks-are, le-leb (a .slots) (length (l .marks) - n) h, ← surveyed-used l p q .1, lt-leb (a .bytes) (length (l .arena) - u) i)
 
         -- or room for the right's keys
         pub room-go : a .bytes ≤ length (l .arena) - u → planned (Go u) ≡ roomOf l r
         unfolding planned roomOf need
-        room-go i = rw (surveyed-used l p q .0, surveyed-used r s t .0, ← e, lives-are, le-leb (a .slots) (length (l .marks) - n) h, ← surveyed-used l p q .1, le-leb (a .bytes) (length (l .arena) - u) i)
+        room-go i = rw (surveyed-used l p q .0, surveyed-used r s t .0, ← e, live-marks-are, le-leb (a .slots) (length (l .marks) - n) h, ← surveyed-used l p q .1, le-leb (a .bytes) (length (l .arena) - u) i)

@@ -35,24 +35,24 @@ lackOf l g k = cond (missing (pathOf l k)) (g k) 0
 
 module _ (l r : Spans) where
   -- What the slot i of the right needs.
-  unfoldable pub lackAt : ℕ → Needed
-  lackAt i = record { slots = weigh (lackOf l (λ k. 1)) (bare r i); bytes = weigh (lackOf l length) (bare r i) }
+  unfoldable pub slotNeeds : ℕ → Needed
+  slotNeeds i = record { slots = weigh (lackOf l (λ k. 1)) (bare r i); bytes = weigh (lackOf l length) (bare r i) }
 
   -- What the first n slots of the right need.
-  unfoldable pub lacksOf : ℕ → Needed
-  lacksOf n = record { slots = total (lackOf l (λ k. 1)) (bare r) n; bytes = total (lackOf l length) (bare r) n }
+  unfoldable pub tableNeeds : ℕ → Needed
+  tableNeeds n = record { slots = total (lackOf l (λ k. 1)) (bare r) n; bytes = total (lackOf l length) (bare r) n }
 
   -- The tests of two tables of right sizes: damage in either, the slots, the bytes; then the left's `used`.
   unfoldable pub roomOf : Or ℕ
   roomOf =
       need (not (harmful l)) 5 (need (not (harmful r)) 5
-      (need (leb (lacksOf (length (r .marks)) .slots) (length (l .marks) - count (bare l) (length (l .marks)))) 7
-      (need (leb (lacksOf (length (r .marks)) .bytes) (length (l .arena) - usedOf l)) 8 (ok (usedOf l)))))
+      (need (leb (tableNeeds (length (r .marks)) .slots) (length (l .marks) - count (bare l) (length (l .marks)))) 7
+      (need (leb (tableNeeds (length (r .marks)) .bytes) (length (l .arena) - usedOf l)) 8 (ok (usedOf l)))))
 
 -- How many of the first n marks are 1.
-unfoldable pub livesOf : List ℕ → ℕ → ℕ
-livesOf marks zero = 0
-livesOf marks (suc n) = livesOf marks n + counted (getD marks n 0)
+unfoldable pub liveMarks : List ℕ → ℕ → ℕ
+liveMarks marks zero = 0
+liveMarks marks (suc n) = liveMarks marks n + counted (getD marks n 0)
 
 -- What a plan says: the left's `used`, or a refusal's number.
 unfoldable pub planned : Planned → Or ℕ

@@ -10,14 +10,14 @@ ghost use Rattle.kinds.specs.Told.{told};
 ghost use Rattle.byte_slots.specs.Memory.{spansNow, spansBefore, spansAfter, fitting, usedOf};
 ghost use Rattle.byte_slots.specs.Kinds.{maps};
 ghost use Rattle.byte_slots.specs.Maps.{mapNow, before, after};
-ghost use Rattle.byte_map_union.specs.Needs.{neededBy, lackAt, lacksOf, livesOf, planned, roomOf, planOf};
+ghost use Rattle.byte_map_union.specs.Needs.{neededBy, slotNeeds, tableNeeds, liveMarks, planned, roomOf, planOf};
 ghost use Rattle.byte_map_union.specs.Stores.{Ready, Storable, pairAt, pairsOf, slotStored, allStored};
 use answers::Outcome;
 use answers::Refusal;
 use byte_arena::fill;
-use byte_map_reads::map_fits;
 use byte_slots::Surveyed;
 use byte_slots::len_at;
+use byte_slots::map_fits;
 use byte_slots::mark_at;
 use byte_slots::offset_at;
 use byte_slots::probe;
@@ -59,7 +59,7 @@ fn needed_by(found: Probed, len: usize) -> Needed
 }
 
 // What slot i of the right needs: a slot and its key's bytes, where it is live and its key is absent in the left.
-fn lack(
+fn slot_needs(
     marks: &[u8],
     offsets: &[u16],
     lengths: &[u8],
@@ -71,7 +71,7 @@ fn lack(
     i: usize,
 ) -> Needed
     requires { ⌜ (fitting (spansNow marks offsets lengths arena) ≡ true) × (fitting (spansNow «right_marks» «right_offsets» «right_lengths» «right_arena») ≡ true) × (i < length (now «right_marks»)) ⌝ }
-    ensures { λ r. ⌜ (r ≡ lackAt (spansBefore marks offsets lengths arena) (spansBefore «right_marks» «right_offsets» «right_lengths» «right_arena») i) × (r .slots ≤ 1) × (r .bytes ≤ 255) ⌝ }
+    ensures { λ r. ⌜ (r ≡ slotNeeds (spansBefore marks offsets lengths arena) (spansBefore «right_marks» «right_offsets» «right_lengths» «right_arena») i) × (r .slots ≤ 1) × (r .bytes ≤ 255) ⌝ }
 {
     if mark_at(right_marks, right_offsets, right_lengths, right_arena, i) == 1 {
         let start = offset_at(right_offsets, i) as usize;
@@ -84,7 +84,7 @@ fn lack(
 }
 
 // What the right needs of the left, over all its slots.
-fn lacks(
+fn table_needs(
     marks: &[u8],
     offsets: &[u16],
     lengths: &[u8],
@@ -95,13 +95,13 @@ fn lacks(
     right_arena: &[u8],
 ) -> Needed
     requires { ⌜ (fitting (spansNow marks offsets lengths arena) ≡ true) × (fitting (spansNow «right_marks» «right_offsets» «right_lengths» «right_arena») ≡ true) ⌝ }
-    ensures { λ r. ⌜ r ≡ lacksOf (spansBefore marks offsets lengths arena) (spansBefore «right_marks» «right_offsets» «right_lengths» «right_arena») (length (now («right_marks» .entry))) ⌝ }
+    ensures { λ r. ⌜ r ≡ tableNeeds (spansBefore marks offsets lengths arena) (spansBefore «right_marks» «right_offsets» «right_lengths» «right_arena») (length (now («right_marks» .entry))) ⌝ }
 {
     let mut slots = 0;
     let mut bytes = 0;
     let mut i = 0;
     while i < right_marks.len() {
-        let more = lack(
+        let more = slot_needs(
             marks,
             offsets,
             lengths,
@@ -120,8 +120,8 @@ fn lacks(
 }
 
 // How many marks are 1: the live slots, where none is damaged.
-fn lives(marks: &[u8]) -> usize
-    ensures { λ r. ⌜ r ≡ livesOf (now (marks .entry)) (length (now (marks .entry))) ⌝ }
+fn live_marks(marks: &[u8]) -> usize
+    ensures { λ r. ⌜ r ≡ liveMarks (now (marks .entry)) (length (now (marks .entry))) ⌝ }
 {
     let mut live = 0;
     let mut i = 0;
@@ -154,7 +154,7 @@ fn room(
     let Surveyed::Used(_) = other else {
         return Planned::Refused(Refusal::Damaged);
     };
-    let needed = lacks(
+    let needed = table_needs(
         marks,
         offsets,
         lengths,
@@ -164,7 +164,7 @@ fn room(
         right_lengths,
         right_arena,
     );
-    if needed.slots <= marks.len() - lives(marks) {
+    if needed.slots <= marks.len() - live_marks(marks) {
         if needed.bytes <= arena.len() - used {
             return Planned::Go(used);
         }

@@ -7,10 +7,10 @@ use Rattle.kinds.specs.Told.{SettledWith}
 use Rattle.kinds.proofs.Settled.{settled-with}
 use Rattle.byte_slots.specs.Kinds.{maps}
 use Rattle.byte_slots.specs.Memory.{Strings}
-use Rattle.byte_map_vacant.specs.Numbers.{standingNumbers}
-use Rattle.byte_map_vacant.proofs.Equal.{standingNumbers-injective}
+use Rattle.byte_map_vacant.specs.Numbers.{inSlotNumbers}
+use Rattle.byte_map_vacant.proofs.Equal.{inSlotNumbers-injective}
 
 module _ (m : Strings values) where
   -- `Vacant::insert`.
-  pub insert-settled : (s : ℕ) (k : List ℕ) (v : ℕ) → SettledWith standingNumbers (standingOf maps m s k v)
-  insert-settled s k v = settled-with standingNumbers-injective
+  pub insert-settled : (s : ℕ) (k : List ℕ) (v : ℕ) → SettledWith inSlotNumbers (standingOf maps m s k v)
+  insert-settled s k v = settled-with inSlotNumbers-injective

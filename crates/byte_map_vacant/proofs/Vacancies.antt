@@ -2,8 +2,11 @@
 use Prim.Native.Nat.{ℕ, _≤_, _<_}
 use mathlib.Core.Bool.{Bool, true, false}
 use mathlib.Core.List.{List}
+use mathlib.Core.Logic.{_⊎_, inl, inr}
 use mathlib.Core.Path.{_≡_, refl, sym, _∙_}
-use borrow.Author.Tests.{eq-eqb, ne-eqb, eqb-true, lt-ltb, le-ltb}
+use native.Mathlib.Omega.{arith}
+use denote.Enum.Declared.{tagOf}
+use borrow.Author.Tests.{eq-eqb, ne-eqb, eqb-true}
 use lib.Dec.{eqb, ltb}
 use lib.ListN.{length, getD, set}
 use Rattle.model.specs.Path.{Find, hit, miss, hurt, at, find}
@@ -11,7 +14,8 @@ use Rattle.model.specs.Calls.{Or, no, ok, need, pass, give, acted, goodFor, vac
 use Rattle.model.proofs.Cases.{by-bool, by-eq, clash}
 use Rattle.digest.specs.Home.{homeOf}
 use Rattle.answers.specs.declared.Refusal.{Refusal}
-use Rattle.answers.specs.declared.Refusal.the-variants.{Sizes, BadHandle}
+use Rattle.answers.specs.declared.Refusal.the-variants.{Sizes, LongKey, NoBudget, WalkBeyond, Damaged, BadHandle, NoSlot, NoBytes}
+use Rattle.answers.proofs.Refusal.{the-type}
 use Rattle.answers.specs.Refusals.{numberOf}
 use Rattle.answers.specs.Said.{standingSaid}
 use Rattle.kinds.specs.Calls.{standingOf}
@@ -20,63 +24,79 @@ use Rattle.kinds.specs.Marks.{keysOnly}
 use Rattle.kinds.specs.Probing.{along}
 use Rattle.kinds.specs.Told.{told}
 use Rattle.kinds.proofs.Bridge.{spotIn}
-use Rattle.byte_slots.specs.declared.Placed.{Placed}
-use Rattle.byte_slots.specs.declared.Placed.the-variants as placed
+use Rattle.byte_slots.specs.declared.InsertPlan.{InsertPlan}
+use Rattle.byte_slots.specs.declared.InsertPlan.the-variants as insertPlan
 use Rattle.byte_slots.specs.Keys.{byteKeys}
 use Rattle.byte_slots.specs.Kinds.{maps}
 use Rattle.byte_slots.specs.Marks.{markAt}
 use Rattle.byte_slots.specs.Memory.{Spans, Strings, keyAt, filled, usedOf, harmful, fitting, keptOf}
-use Rattle.byte_slots.specs.Planning.{placedBy, roomFor, placing}
+use Rattle.byte_slots.specs.Planning.{insertPlanBy, roomFor, planningInsert, planningMapInsert}
 use Rattle.byte_slots.specs.Probing.{pathFrom, pathOf}
 use Rattle.byte_slots.proofs.Bridge.{spot-is, short-refused, kept-no}
 use Rattle.byte_arena.specs.Needs.{Fillable}
-use Rattle.byte_map_reads.proofs.Seeking.{by-long}
-use Rattle.byte_map.specs.Planning.{placingMap}
-use Rattle.byte_map.proofs.Planning.{place-free}
-use Rattle.byte_map_vacant.specs.declared.Fresh.{Fresh}
-use Rattle.byte_map_vacant.specs.declared.Fresh.the-variants as fresh
-use Rattle.byte_map_vacant.specs.declared.Standing.the-variants as standing
-use Rattle.byte_map_vacant.specs.Numbers.{standingNumbers}
-use Rattle.byte_map_vacant.specs.Planning.{freshBy}
+use Rattle.byte_slots.proofs.Seeking.{by-long}
+use Rattle.byte_arena.proofs.Plans.{map-plan-insert-free}
+use Rattle.byte_map_vacant.specs.declared.Vacancy.{Vacancy}
+use Rattle.byte_map_vacant.specs.declared.Vacancy.the-variants.{Good, Refused}
+use Rattle.byte_map_vacant.specs.declared.InSlot.the-variants as inSlot
+use Rattle.byte_map_vacant.specs.Numbers.{inSlotNumbers}
+use Rattle.byte_map_vacant.specs.Planning.{handleRefusal, vacancyBy}
 
 -- What a vacant handle's plan says in the theory's words.
-abbrev worthOf : Fresh → Or (Unit {0})
-worthOf (fresh.Used u) = ok tt
-worthOf (fresh.Refused r) = no (numberOf r)
+abbrev worthOf : Vacancy → Or (Unit {0})
+worthOf (Good u) = ok tt
+worthOf (Refused r) = no (numberOf r)
 
 -- the plan, as the code makes it
-pub fresh-here : (i : ℕ) {p : Placed} {x e u : ℕ} → p ≡ placed.Free x e u → i ≡ x → fresh.Used u ≡ freshBy i p
-unfolding freshBy
-fresh-here i {p} {x} q l = rw (q, eq-eqb i x l)
+pub vacancy-here : (i : ℕ) {p : InsertPlan} {x e u : ℕ} → p ≡ insertPlan.Free x e u → i ≡ x → Good u ≡ vacancyBy i p
+unfolding vacancyBy
+vacancy-here i {p} {x} q l = rw (q, eq-eqb i x l)
 
-pub fresh-elsewhere : (i : ℕ) {p : Placed} {x e u : ℕ} → p ≡ placed.Free x e u → (i ≡ x → ⊥) → fresh.Refused BadHandle ≡ freshBy i p
-unfolding freshBy
-fresh-elsewhere i {p} {x} q l = rw (q, ne-eqb i x l)
+pub vacancy-elsewhere : (i : ℕ) {p : InsertPlan} {x e u : ℕ} → p ≡ insertPlan.Free x e u → (i ≡ x → ⊥) → Refused BadHandle ≡ vacancyBy i p
+unfolding vacancyBy
+vacancy-elsewhere i {p} {x} q l = rw (q, ne-eqb i x l)
 
-pub fresh-hit : (i : ℕ) {p : Placed} {x e : ℕ} → p ≡ placed.Hit x e → fresh.Refused BadHandle ≡ freshBy i p
-unfolding freshBy
-fresh-hit i q = rw q
+pub vacancy-hit : (i : ℕ) {p : InsertPlan} {x e : ℕ} → p ≡ insertPlan.Hit x e → Refused BadHandle ≡ vacancyBy i p
+unfolding vacancyBy
+vacancy-hit i q = rw q
 
-pub fresh-above : (i : ℕ) {p : Placed} {r : Refusal} {n : ℕ} → p ≡ placed.Refused r → n ≡ numberOf r → 6 < n → fresh.Refused BadHandle ≡ freshBy i p
-unfolding freshBy
-fresh-above i {p} {r} {n} q e l = rw (q, ← e, lt-ltb 6 n l)
+pub vacancy-refused : (i : ℕ) {p : InsertPlan} {r x : Refusal} → p ≡ insertPlan.Refused r → x ≡ handleRefusal r → Refused x ≡ vacancyBy i p
+unfolding vacancyBy
+vacancy-refused i q e = rw (q, e)
 
-pub fresh-refused : (i : ℕ) {p : Placed} {r : Refusal} {n : ℕ} → p ≡ placed.Refused r → n ≡ numberOf r → n ≤ 6 → fresh.Refused r ≡ freshBy i p
-unfolding freshBy
-fresh-refused i {p} {r} {n} q e l = rw (q, ← e, le-ltb 6 n l)
+-- one of the first six
+low : (n : ℕ) → (n ≡ 0) ⊎ ((n ≡ 1) ⊎ ((n ≡ 2) ⊎ ((n ≡ 3) ⊎ ((n ≡ 4) ⊎ (n ≡ 5))))) → n ≤ 5
+low n (inl e) = omega arith
+low n (inr (inl e)) = omega arith
+low n (inr (inr (inl e))) = omega arith
+low n (inr (inr (inr (inl e)))) = omega arith
+low n (inr (inr (inr (inr (inl e))))) = omega arith
+low n (inr (inr (inr (inr (inr e))))) = omega arith
+
+-- a refusal that is not 7 or 8 stays
+pub refusal-stays : (r : Refusal) → (tagOf the-type r ≡ 0) ⊎ ((tagOf the-type r ≡ 1) ⊎ ((tagOf the-type r ≡ 2) ⊎ ((tagOf the-type r ≡ 3) ⊎ ((tagOf the-type r ≡ 4) ⊎ (tagOf the-type r ≡ 5))))) → r ≡ handleRefusal r
+unfolding handleRefusal
+refusal-stays Sizes t = refl
+refusal-stays LongKey t = refl
+refusal-stays NoBudget t = refl
+refusal-stays WalkBeyond t = refl
+refusal-stays Damaged t = refl
+refusal-stays BadHandle t = refl
+refusal-stays NoSlot t = absurd (omega (arith, low 6 t))
+refusal-stays NoBytes t = absurd (omega (arith, low 7 t))
 
 -- a good handle's slot is the one that the plan names
-fresh-free : (i : ℕ) {u : ℕ} (p : Placed) → freshBy i p ≡ fresh.Used u → (e : ℕ) × (p ≡ placed.Free i e u)
-unfolding freshBy
-fresh-free i (placed.Hit x e) q = clash cc
-fresh-free i {u} (placed.Free x e v) q = by-eq i x
+vacancy-free : (i : ℕ) {u : ℕ} (p : InsertPlan) → vacancyBy i p ≡ Good u → (e : ℕ) × (p ≡ insertPlan.Free i e u)
+unfolding vacancyBy
+vacancy-free i (insertPlan.Hit x e) q = clash cc
+vacancy-free i {u} (insertPlan.Free x e v) q = by-eq i x
     (λ l t. let z : v ≡ u = cc (rw t at q) in (e, rw (z, l)))
     (λ l t. clash (cc (rw t at q)))
-fresh-free i (placed.Refused r) q = by-bool (ltb 6 (numberOf r)) (λ t. clash (cc (rw t at q))) (λ t. clash (cc (rw t at q)))
+vacancy-free i (insertPlan.Refused r) q = clash cc
 
 -- a vacant handle by the path
-good-along : (i S h u : ℕ) (room : Bool) (read : ℕ → ℕ) {W : Type 0} (x : Find W) → goodFor maps i (spotIn room read (along S h x)) ≡ worthOf (freshBy i (placedBy u room (along S h x)))
-unfolding goodFor along placedBy freshBy need
+good-along : (i S h u : ℕ) (room : Bool) (read : ℕ → ℕ) {W : Type 0} (x : Find W) → goodFor maps i (spotIn room read (along S h x)) ≡ worthOf (vacancyBy i (insertPlanBy u room (along S h x)))
+unfolding goodFor along insertPlanBy vacancyBy handleRefusal need
 good-along i S h u room read (hit n v) = refl
 good-along i S h u true read (miss e f) = by-bool (ltb f S)
     (λ t. rw t (by-bool (eqb i (at S h f)) (λ q. rw q) (λ q. rw q)))
@@ -85,7 +105,7 @@ good-along i S h u false read (miss e f) = by-bool (ltb f S) (λ t. rw t) (λ t.
 good-along i S h u room read hurt = refl
 
 module _ (m : Strings values) (i : ℕ) (k : List ℕ) where
-  good-path : goodFor maps i (spotIn (roomFor (m .spans) k) (λ j. getD (m .words) j 0) (pathOf (m .spans) k)) ≡ worthOf (freshBy i (placedBy (usedOf (m .spans)) (roomFor (m .spans) k) (pathOf (m .spans) k)))
+  good-path : goodFor maps i (spotIn (roomFor (m .spans) k) (λ j. getD (m .words) j 0) (pathOf (m .spans) k)) ≡ worthOf (vacancyBy i (insertPlanBy (usedOf (m .spans)) (roomFor (m .spans) k) (pathOf (m .spans) k)))
   unfolding pathOf pathFrom
   good-path =
       let h = homeOf 0 (length (m .spans .marks)) k in
@@ -95,9 +115,9 @@ module _ (m : Strings values) (i : ℕ) (k : List ℕ) where
   unfolding vacancy
   vacancy-short e = short-refused values m _ e
 
-  vacancy-placing : eqb (length (m .spans .marks)) (length (m .words)) ≡ true → vacancy maps m i k ≡ worthOf (freshBy i (placing (m .spans) k))
-  unfolding vacancy need pass placing freshBy
-  vacancy-placing long = rw long (by-bool (fitting (m .spans))
+  vacancy-planning : eqb (length (m .spans .marks)) (length (m .words)) ≡ true → vacancy maps m i k ≡ worthOf (vacancyBy i (planningInsert (m .spans) k))
+  unfolding vacancy need pass planningInsert vacancyBy handleRefusal
+  vacancy-planning long = rw long (by-bool (fitting (m .spans))
       (λ f. rw f (by-bool (eqb (keptOf k) 0)
       (λ a. rw (a, eqb-true (keptOf k) 0 a) (by-bool (harmful (m .spans))
       (λ h. rw h)
@@ -106,28 +126,28 @@ module _ (m : Strings values) (i : ℕ) (k : List ℕ) where
       (λ f. rw f))
 
   -- a vacant handle by insert's plan
-  vacancy-placed : vacancy maps m i k ≡ worthOf (freshBy i (placingMap m k))
-  unfolding placingMap freshBy
-  vacancy-placed = by-long m (placing (m .spans) k) (placed.Refused Sizes) (λ p. worthOf (freshBy i p)) (vacancy maps m i k) vacancy-placing vacancy-short
+  vacancy-planned : vacancy maps m i k ≡ worthOf (vacancyBy i (planningMapInsert m k))
+  unfolding planningMapInsert vacancyBy handleRefusal
+  vacancy-planned = by-long m (planningInsert (m .spans) k) (insertPlan.Refused Sizes) (λ p. worthOf (vacancyBy i p)) (vacancy maps m i k) vacancy-planning vacancy-short
 
   -- where insert's plan is p, and the handle's r
-  module _ {p : Placed} {r : Fresh} (w : p ≡ placingMap m k) (y : r ≡ freshBy i p) where
-    worth : {x : Fresh} → r ≡ x → vacancy maps m i k ≡ worthOf x
-    worth q = rw (← q, y, w) vacancy-placed
+  module _ {p : InsertPlan} {r : Vacancy} (w : p ≡ planningMapInsert m k) (y : r ≡ vacancyBy i p) where
+    worth : {x : Vacancy} → r ≡ x → vacancy maps m i k ≡ worthOf x
+    worth q = rw (← q, y, w) vacancy-planned
 
-    stands : {u : ℕ} → r ≡ fresh.Used u → Fillable (m .spans) i u k × (i < length (m .words))
-    stands q = let (e, f) = fresh-free i p (sym y ∙ q) in place-free m k w f
+    stands : {u : ℕ} → r ≡ Good u → Fillable (m .spans) i u k × (i < length (m .words))
+    stands q = let (e, f) = vacancy-free i p (sym y ∙ q) in map-plan-insert-free m k w f
 
-    pub fresh-fillable : {u : ℕ} → r ≡ fresh.Used u → Fillable (m .spans) i u k
-    fresh-fillable q = stands q .0
+    pub vacancy-fillable : {u : ℕ} → r ≡ Good u → Fillable (m .spans) i u k
+    vacancy-fillable q = stands q .0
 
-    pub fresh-inside : {u : ℕ} → r ≡ fresh.Used u → i < length (m .words)
-    fresh-inside q = stands q .1
+    pub vacancy-inside : {u : ℕ} → r ≡ Good u → i < length (m .words)
+    vacancy-inside q = stands q .1
 
-    pub insert-done : (v : ℕ) {u : ℕ} {t : Spans} → r ≡ fresh.Used u → t ≡ filled (m .spans) i k → told (standingNumbers (standing.Now (record { slot = i }) v)) (record { spans = t; words = set (m .words) i v }) ≡ standingOf maps m i k v
-    unfolding standingOf vacant-insert after-fill give acted standingNumbers standingSaid
+    pub insert-done : (v : ℕ) {u : ℕ} {t : Spans} → r ≡ Good u → t ≡ filled (m .spans) i k → told (inSlotNumbers (inSlot.Now (record { slot = i }) v)) (record { spans = t; words = set (m .words) i v }) ≡ standingOf maps m i k v
+    unfolding standingOf vacant-insert after-fill give acted inSlotNumbers standingSaid
     insert-done v q e = rw (worth q, ← e)
 
-    pub insert-refused : (v : ℕ) {x : Refusal} → r ≡ fresh.Refused x → told (standingNumbers (standing.Refused x)) m ≡ standingOf maps m i k v
-    unfolding standingOf vacant-insert after-fill give acted standingNumbers standingSaid
+    pub insert-refused : (v : ℕ) {x : Refusal} → r ≡ Refused x → told (inSlotNumbers (inSlot.Refused x)) m ≡ standingOf maps m i k v
+    unfolding standingOf vacant-insert after-fill give acted inSlotNumbers standingSaid
     insert-refused v q = rw (worth q)

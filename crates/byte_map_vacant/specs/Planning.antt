@@ -1,16 +1,27 @@
 -- The plan of a vacant handle's insert, by insert's own plan.
 use Prim.Native.Nat.{ℕ}
 use mathlib.Core.Bool.{cond}
-use lib.Dec.{eqb, ltb}
-use Rattle.answers.specs.declared.Refusal.the-variants as refusal
-use Rattle.answers.specs.Refusals.{numberOf}
-use Rattle.byte_slots.specs.declared.Placed.{Placed}
-use Rattle.byte_slots.specs.declared.Placed.the-variants as placed
-use Rattle.byte_map_vacant.specs.declared.Fresh.{Fresh}
-use Rattle.byte_map_vacant.specs.declared.Fresh.the-variants as fresh
+use lib.Dec.{eqb}
+use Rattle.answers.specs.declared.Refusal.{Refusal}
+use Rattle.answers.specs.declared.Refusal.the-variants.{Sizes, LongKey, NoBudget, WalkBeyond, Damaged, BadHandle, NoSlot, NoBytes}
+use Rattle.byte_slots.specs.declared.InsertPlan.{InsertPlan}
+use Rattle.byte_slots.specs.declared.InsertPlan.the-variants as insertPlan
+use Rattle.byte_map_vacant.specs.declared.Vacancy.{Vacancy}
+use Rattle.byte_map_vacant.specs.declared.Vacancy.the-variants.{Good, Refused}
+
+-- A vacant handle's refusal by that of insert's plan: refusals 7 and 8 become 6.
+unfoldable pub handleRefusal : Refusal → Refusal
+handleRefusal Sizes = Sizes
+handleRefusal LongKey = LongKey
+handleRefusal NoBudget = NoBudget
+handleRefusal WalkBeyond = WalkBeyond
+handleRefusal Damaged = Damaged
+handleRefusal BadHandle = BadHandle
+handleRefusal NoSlot = BadHandle
+handleRefusal NoBytes = BadHandle
 
 -- What a vacant handle of the slot i makes of insert's plan: refusals 1, 2 and 5 stay, and anything that insert would not do at that very slot is refused 6.
-unfoldable pub freshBy : ℕ → Placed → Fresh
-freshBy i (placed.Hit x e) = fresh.Refused refusal.BadHandle
-freshBy i (placed.Free x e u) = cond (eqb i x) (fresh.Used u) (fresh.Refused refusal.BadHandle)
-freshBy i (placed.Refused r) = cond (ltb 6 (numberOf r)) (fresh.Refused refusal.BadHandle) (fresh.Refused r)
+unfoldable pub vacancyBy : ℕ → InsertPlan → Vacancy
+vacancyBy i (insertPlan.Hit x e) = Refused BadHandle
+vacancyBy i (insertPlan.Free x e u) = cond (eqb i x) (Good u) (Refused BadHandle)
+vacancyBy i (insertPlan.Refused r) = Refused (handleRefusal r)

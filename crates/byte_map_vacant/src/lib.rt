@@ -4,14 +4,15 @@ ghost use Rattle.kinds.specs.Calls.{standingOf};
 ghost use Rattle.kinds.specs.Told.{told};
 ghost use Rattle.byte_slots.specs.Kinds.{maps};
 ghost use Rattle.byte_slots.specs.Maps.{before, after};
-ghost use Rattle.byte_map_vacant.specs.Numbers.{standingNumbers};
-ghost use Rattle.byte_map_vacant.specs.Planning.{freshBy};
+ghost use Rattle.byte_map_vacant.specs.Numbers.{inSlotNumbers};
+ghost use Rattle.byte_map_vacant.specs.Planning.{handleRefusal, vacancyBy};
 use answers::Numbers;
 use answers::Refusal;
 use answers::case_numbers;
 use answers::refusal_numbers;
 use byte_map_occupied::Occupied;
-use byte_slots::Placed;
+use byte_slots::InsertPlan;
+use byte_slots::map_plan_insert;
 
 // A handle of the slot that a key would take.
 pub struct Vacant {
@@ -19,35 +20,41 @@ pub struct Vacant {
 }
 
 // The answer of the calls that leave the key in a slot: its handle, and the value now in the slot.
-pub enum Standing {
+pub enum InSlot {
     Now(Occupied, u64),
     Refused(Refusal),
 }
 
 // The plan of a vacant handle's insert: `used`, or a refusal.
-pub enum Fresh {
-    Used(usize),
+pub enum Vacancy {
+    Good(usize),
     Refused(Refusal),
 }
 
+// A vacant handle's refusal by that of insert's plan: where insert finds no room, the handle is not good.
+fn handle_refusal(refusal: Refusal) -> Refusal
+    ensures { λ r. ⌜ r ≡ handleRefusal refusal ⌝ }
+{
+    match refusal {
+        Refusal::NoSlot => Refusal::BadHandle,
+        Refusal::NoBytes => Refusal::BadHandle,
+        _ => refusal,
+    }
+}
+
 // What a vacant handle of this slot makes of insert's plan: it is good where insert would use that very slot.
-fn fresh_by(plan: Placed, slot: usize) -> Fresh
-    ensures { λ r. ⌜ r ≡ freshBy slot plan ⌝ }
+fn vacancy_by(plan: InsertPlan, slot: usize) -> Vacancy
+    ensures { λ r. ⌜ r ≡ vacancyBy slot plan ⌝ }
 {
     match plan {
-        Placed::Free(free, _, used) => {
+        InsertPlan::Free(free, _, used) => {
             if slot == free {
-                return Fresh::Used(used);
+                return Vacancy::Good(used);
             }
-            return Fresh::Refused(Refusal::BadHandle);
+            Vacancy::Refused(Refusal::BadHandle)
         }
-        Placed::Hit(_, _) => return Fresh::Refused(Refusal::BadHandle),
-        Placed::Refused(r) => {
-            if 6 < answers::number(r) {
-                return Fresh::Refused(Refusal::BadHandle);
-            }
-            return Fresh::Refused(r);
-        }
+        InsertPlan::Hit(_, _) => Vacancy::Refused(Refusal::BadHandle),
+        InsertPlan::Refused(refusal) => Vacancy::Refused(handle_refusal(refusal)),
     }
 }
 
@@ -62,29 +69,29 @@ impl Vacant {
         arena: &mut [u8],
         key: &[u8],
         value: u64,
-    ) -> Standing
-        ensures { λ r. ⌜ told (standingNumbers r) (after marks offsets lengths values arena) ≡ standingOf maps (before marks offsets lengths values arena) (self .slot) (now (key .entry)) value ⌝ }
+    ) -> InSlot
+        ensures { λ r. ⌜ told (inSlotNumbers r) (after marks offsets lengths values arena) ≡ standingOf maps (before marks offsets lengths values arena) (self .slot) (now (key .entry)) value ⌝ }
     {
         let slot = self.slot;
-        let plan = byte_map::place(marks, offsets, lengths, values, arena, key);
-        let worth = fresh_by(plan, slot);
+        let plan = map_plan_insert(marks, offsets, lengths, values, arena, key);
+        let worth = vacancy_by(plan, slot);
         match worth {
-            Fresh::Used(used) => {
+            Vacancy::Good(used) => {
                 values[slot] = value;
                 byte_arena::fill(marks, offsets, lengths, arena, slot, used, key);
-                Standing::Now(Occupied { slot }, value)
+                InSlot::Now(Occupied { slot }, value)
             }
-            Fresh::Refused(r) => Standing::Refused(r),
+            Vacancy::Refused(r) => InSlot::Refused(r),
         }
     }
 }
 
 // The numbers of the calls that leave the key in a slot.
-pub fn standing_numbers(a: Standing) -> Numbers
-    ensures { λ n. ⌜ n ≡ standingNumbers a ⌝ }
+pub fn in_slot_numbers(a: InSlot) -> Numbers
+    ensures { λ n. ⌜ n ≡ inSlotNumbers a ⌝ }
 {
     match a {
-        Standing::Now(handle, value) => case_numbers(19, 0, value, handle.slot, 0),
-        Standing::Refused(r) => refusal_numbers(r),
+        InSlot::Now(handle, value) => case_numbers(19, 0, value, handle.slot, 0),
+        InSlot::Refused(r) => refusal_numbers(r),
     }
 }

@@ -19,9 +19,9 @@ use Rattle.byte_slots.specs.Memory.{Strings}
 use Rattle.byte_slots.specs.Kinds.{maps, paceOf, stepOf}
 use Rattle.byte_slots.specs.Scanning.{nexting}
 use Rattle.byte_slots.proofs.Bridge.{paced-by}
-use Rattle.byte_map_reads.specs.Seeking.{sizedOf}
-use Rattle.byte_map_reads.proofs.Counting.{sized-as}
-use Rattle.byte_map_reads.proofs.Laws.{same-long}
+use Rattle.kinds.specs.Calls.{sizedOf}
+use Rattle.kinds.proofs.Sizing.{sized-as}
+use Rattle.byte_slots.proofs.MapSizes.{same-long}
 use Rattle.byte_map_walk.specs.declared.Paced.the-variants.{Pair, Nothing, Done}
 use Rattle.byte_map_walk.specs.declared.Stride.{Stride}
 use Rattle.byte_map_walk.specs.Numbers.{pacedNumbers, refusedNumbers, stepNumbers}

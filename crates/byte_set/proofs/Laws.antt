@@ -1,57 +1,58 @@
 -- What the tests and callees of each call say of its definition. A path call has one law, by what its plan says.
 use Prim.Native.Nat.{ℕ}
-use mathlib.Core.Bool.{Bool, true, false}
+use mathlib.Core.Bool.{Bool, true}
 use mathlib.Core.List.{List}
-use mathlib.Core.Path.{_≡_, refl}
-use Rattle.model.specs.Calls.{need, storedBy, after-insert, removedBy, after-remove, acted, capacity, after-make}
-use Rattle.answers.specs.declared.Refusal.the-variants.{Sizes}
+use mathlib.Core.Path.{_≡_, refl, sym, _∙_}
+use lib.ListN.{length}
+use Rattle.model.specs.Calls.{storedBy, after-insert, removedBy, after-remove}
 use Rattle.answers.specs.declared.Outcome.the-variants as outcome
 use Rattle.answers.specs.declared.Joined.the-variants as joined
 use Rattle.answers.specs.declared.Dropped.the-variants as dropped
 use Rattle.answers.specs.Numbers.{outcomeNumbers, joinedNumbers, droppedNumbers}
-use Rattle.answers.specs.Said.{doneSaid, joinedSaid, droppedSaid}
-use Rattle.kinds.specs.Calls.{makeOf, droppedOf}
+use Rattle.answers.specs.Said.{joinedSaid, droppedSaid}
+use Rattle.arrays.specs.Whole.{copied}
+use Rattle.kinds.specs.Calls.{makeOf, copyOf, droppedOf}
 use Rattle.kinds.specs.Columns.{nothing}
 use Rattle.kinds.specs.Told.{told}
-use Rattle.byte_slots.specs.declared.Placed.{Placed}
-use Rattle.byte_slots.specs.declared.Placed.the-variants as placed
-use Rattle.byte_slots.specs.declared.Located.{Located}
-use Rattle.byte_slots.specs.declared.Located.the-variants as located
-use Rattle.byte_slots.specs.Memory.{Spans, usedOf, fitting, filled, emptied, wiped}
-use Rattle.byte_slots.specs.Kinds.{sets, joinOf}
-use Rattle.byte_slots.specs.Planning.{placing, locating}
-use Rattle.byte_slots.proofs.Bridge.{spotOf, lostOf, remove-locating, entry-placing}
-use Rattle.byte_slots.proofs.Sets.{setOf, fit, unfit}
-use Rattle.byte_arena.proofs.Plans.{place-fillable}
+use Rattle.kinds.proofs.Copying.{copy-sized}
+use Rattle.kinds.proofs.Sizing.{make-sized}
+use Rattle.byte_slots.specs.declared.InsertPlan.{InsertPlan}
+use Rattle.byte_slots.specs.declared.InsertPlan.the-variants as insertPlan
+use Rattle.byte_slots.specs.declared.RemovePlan.{RemovePlan}
+use Rattle.byte_slots.specs.declared.RemovePlan.the-variants as removePlan
+use Rattle.byte_slots.specs.Memory.{Spans, spansOf, usedOf, fitting, filled, emptied, wiped}
+use Rattle.byte_slots.specs.Kinds.{sets, setInsertOf}
+use Rattle.byte_slots.specs.Planning.{planningInsert, planningRemove}
+use Rattle.byte_slots.proofs.Bridge.{spotOf, lostOf, remove-planning, entry-planning}
+use Rattle.byte_slots.proofs.Sets.{setOf, fit}
+use Rattle.byte_arena.proofs.Copies.{spans-copied}
+use Rattle.byte_arena.proofs.Plans.{plan-fillable}
 
 module _ (s : Spans) where
-  -- by the test of the sizes
-  module _ {b : Bool} (p : b ≡ fitting s) where
-    -- make and clear
-    pub make-done : b ≡ true → {t : Spans} → t ≡ wiped s → told (outcomeNumbers outcome.Done) (setOf t) ≡ makeOf sets (setOf s)
-    unfolding makeOf capacity after-make acted need doneSaid outcomeNumbers
-    make-done q x = rw (fit s p q, x)
+  -- make and clear, and copy from another set, by the test of the sizes
+  module _ {b : Bool} (p : b ≡ fitting s) (q : b ≡ true) where
+    pub make-done : {t : Spans} → t ≡ wiped s → told (outcomeNumbers outcome.Done) (setOf t) ≡ makeOf sets (setOf s)
+    make-done x = make-sized sets (setOf s) (fit s p q) (rw x)
 
-    pub make-not : b ≡ false → told (outcomeNumbers (outcome.Refused Sizes)) (setOf s) ≡ makeOf sets (setOf s)
-    unfolding makeOf capacity after-make acted need doneSaid outcomeNumbers
-    make-not q = rw (unfit s p q)
+    pub copy-done : (t : Spans) {d : Bool} → d ≡ fitting t → d ≡ true → length (s .marks) ≡ length (t .marks) → length (s .arena) ≡ length (t .arena) → {x y z w : List ℕ} → x ≡ copied (s .marks) (t .marks) → y ≡ copied (s .offsets) (t .offsets) → z ≡ copied (s .lengths) (t .lengths) → w ≡ copied (s .arena) (t .arena) → told (outcomeNumbers outcome.Done) (setOf (spansOf x y z w)) ≡ copyOf sets (setOf s) (setOf t)
+    copy-done t r h e a x y z w = copy-sized sets (setOf s) (setOf t) (fit s p q) (fit t r h) e a (rw (spans-copied s t (sym p ∙ q) (sym r ∙ h) e a x y z w))
 
   -- insert, by its plan
-  module _ (k : List ℕ) {r : Placed} (p : r ≡ placing s k) where
-    pub insert-says : {x : Placed} → r ≡ x → told (joinedSaid (usedOf s) (spotOf {W = Unit {0}} (λ i. tt) x)) (storedBy sets (setOf s) k tt (spotOf (λ i. tt) x)) ≡ joinOf (setOf s) k
-    unfolding joinOf after-insert
-    insert-says q = rw (entry-placing nothing (setOf s) k refl, ← p, q)
+  module _ (k : List ℕ) {r : InsertPlan} (p : r ≡ planningInsert s k) where
+    pub insert-says : {x : InsertPlan} → r ≡ x → told (joinedSaid (usedOf s) (spotOf {W = Unit {0}} (λ i. tt) x)) (storedBy sets (setOf s) k tt (spotOf (λ i. tt) x)) ≡ setInsertOf (setOf s) k
+    unfolding setInsertOf after-insert
+    insert-says q = rw (entry-planning nothing (setOf s) k refl, ← p, q)
 
-    pub insert-fresh : {i e u : ℕ} {t : Spans} → r ≡ placed.Free i e u → t ≡ filled s i k → told (joinedNumbers (joined.Fresh i u e)) (setOf t) ≡ joinOf (setOf s) k
+    pub insert-fresh : {i e u : ℕ} {t : Spans} → r ≡ insertPlan.Free i e u → t ≡ filled s i k → told (joinedNumbers (joined.Fresh i u e)) (setOf t) ≡ setInsertOf (setOf s) k
     unfolding joinedNumbers joinedSaid storedBy
-    insert-fresh q x = rw (x, place-fillable s k p q .used) (insert-says q)
+    insert-fresh q x = rw (x, plan-fillable s k p q .used) (insert-says q)
 
   -- remove, by its plan
-  module _ (k : List ℕ) {r : Located} (p : r ≡ locating s k) where
-    pub remove-says : {x : Located} → r ≡ x → told (droppedSaid (lostOf {W = Unit {0}} (λ i. tt) x)) (removedBy sets (setOf s) (lostOf (λ i. tt) x)) ≡ droppedOf sets (setOf s) k
+  module _ (k : List ℕ) {r : RemovePlan} (p : r ≡ planningRemove s k) where
+    pub remove-says : {x : RemovePlan} → r ≡ x → told (droppedSaid (lostOf {W = Unit {0}} (λ i. tt) x)) (removedBy sets (setOf s) (lostOf (λ i. tt) x)) ≡ droppedOf sets (setOf s) k
     unfolding droppedOf after-remove
-    remove-says q = rw (remove-locating nothing (setOf s) k refl, ← p, q)
+    remove-says q = rw (remove-planning nothing (setOf s) k refl, ← p, q)
 
-    pub remove-hit : {i e u : ℕ} {t : Spans} → r ≡ located.Hit i e u → t ≡ emptied s i → told (droppedNumbers (dropped.Removed i e)) (setOf t) ≡ droppedOf sets (setOf s) k
+    pub remove-hit : {i e u : ℕ} {t : Spans} → r ≡ removePlan.Hit i e u → t ≡ emptied s i → told (droppedNumbers (dropped.Removed i e)) (setOf t) ≡ droppedOf sets (setOf s) k
     unfolding droppedNumbers droppedSaid removedBy
     remove-hit q x = rw x (remove-says q)

@@ -3,12 +3,12 @@ use Prim.Native.Nat.{ℕ}
 use mathlib.Core.List.{List}
 use Rattle.answers.specs.Numbers.{outcomeNumbers, joinedNumbers, droppedNumbers}
 use Rattle.answers.proofs.Equal.{outcomeNumbers-injective, joinedNumbers-injective, droppedNumbers-injective}
-use Rattle.kinds.specs.Calls.{makeOf, droppedOf}
+use Rattle.kinds.specs.Calls.{makeOf, copyOf, droppedOf}
 use Rattle.kinds.specs.Columns.{nothing}
 use Rattle.kinds.specs.Told.{SettledWith}
 use Rattle.kinds.proofs.Settled.{settled-with}
 use Rattle.byte_slots.specs.Memory.{Strings}
-use Rattle.byte_slots.specs.Kinds.{sets, joinOf}
+use Rattle.byte_slots.specs.Kinds.{sets, setInsertOf}
 
 module _ (m : Strings nothing) where
   -- `make`.
@@ -20,9 +20,13 @@ module _ (m : Strings nothing) where
   clear-settled = settled-with outcomeNumbers-injective
 
   -- `insert`.
-  pub insert-settled : (k : List ℕ) → SettledWith joinedNumbers (joinOf m k)
+  pub insert-settled : (k : List ℕ) → SettledWith joinedNumbers (setInsertOf m k)
   insert-settled k = settled-with joinedNumbers-injective
 
   -- `remove`.
   pub remove-settled : (k : List ℕ) → SettledWith droppedNumbers (droppedOf sets m k)
   remove-settled k = settled-with droppedNumbers-injective
+
+  -- `copy`.
+  pub copy-settled : (from : Strings nothing) → SettledWith outcomeNumbers (copyOf sets m from)
+  copy-settled from = settled-with outcomeNumbers-injective

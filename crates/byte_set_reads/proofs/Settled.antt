@@ -8,7 +8,7 @@ use Rattle.kinds.specs.Columns.{nothing}
 use Rattle.kinds.specs.Told.{Settled}
 use Rattle.kinds.proofs.Settled.{settled}
 use Rattle.byte_slots.specs.Memory.{Strings}
-use Rattle.byte_slots.specs.Kinds.{sets, spanOf}
+use Rattle.byte_slots.specs.Kinds.{sets, setGetOf}
 
 module _ (m : Strings nothing) where
   -- `capacity`.
@@ -28,7 +28,7 @@ module _ (m : Strings nothing) where
   reserve-settled asked = settled reservedNumbers-injective
 
   -- `get`.
-  pub get-settled : (k : List ℕ) → Settled spannedNumbers (spanOf m k)
+  pub get-settled : (k : List ℕ) → Settled spannedNumbers (setGetOf m k)
   get-settled k = settled spannedNumbers-injective
 
   -- `contains`.

@@ -2,7 +2,7 @@
 ghost use mathlib.Core.Path.{_≡_};
 ghost use Rattle.answers.specs.Numbers.{countedNumbers, emptinessNumbers, reservedNumbers, spannedNumbers, containedNumbers};
 ghost use Rattle.kinds.specs.Calls.{capacityOf, lenOf, isEmptyOf, reserveOf, containsOf};
-ghost use Rattle.byte_slots.specs.Kinds.{sets, spanOf};
+ghost use Rattle.byte_slots.specs.Kinds.{sets, setGetOf};
 ghost use Rattle.byte_slots.specs.Sets.{before};
 use answers::Contained;
 use answers::Counted;
@@ -73,7 +73,7 @@ pub fn reserve(marks: &[u8], offsets: &[u16], lengths: &[u8], arena: &[u8], aske
 
 // The stored key's offset and length where the key is there, with its slot and the examined number.
 pub fn get(marks: &[u8], offsets: &[u16], lengths: &[u8], arena: &[u8], key: &[u8]) -> Spanned
-    ensures { λ r. ⌜ spannedNumbers r ≡ spanOf (before marks offsets lengths arena) (now (key .entry)) ⌝ }
+    ensures { λ r. ⌜ spannedNumbers r ≡ setGetOf (before marks offsets lengths arena) (now (key .entry)) ⌝ }
 {
     let seen = byte_slots::probe(marks, offsets, lengths, arena, key);
     match seen {

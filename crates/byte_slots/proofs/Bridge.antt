@@ -1,12 +1,12 @@
 -- What the answers over the spans say of the calls' definitions, for any column: the laws that byte maps and byte sets cite.
-use Prim.Native.Nat.{ℕ, zero, suc, _+_, _≤_, _<_}
+use Prim.Native.Nat.{ℕ, _+_, _≤_, _<_}
 use mathlib.Core.Bool.{Bool, true, false}
 use mathlib.Core.List.{List}
 use mathlib.Core.Path.{_≡_, refl, sym, _∙_}
 use borrow.Author.Tests.{eqb-true}
 use lib.Dec.{eqb}
 use lib.ListN.{length}
-use Rattle.model.specs.Slots.{weigh, total}
+use Rattle.model.specs.Slots.{total}
 use Rattle.model.specs.Store.{path, live-count, used, hurtful}
 use Rattle.model.specs.Calls.{Or, no, ok, need, pass, Seen, found, absent, Spot, occupied, vacant, seenBy, spotBy, get, entry, remove}
 use Rattle.model.specs.Walk.{paceTo}
@@ -21,33 +21,34 @@ use Rattle.kinds.specs.declared.Scanned.the-variants as scanned
 use Rattle.kinds.specs.declared.Next.{Next}
 use Rattle.kinds.specs.declared.Next.the-variants as next
 use Rattle.kinds.specs.Columns.{Column}
-use Rattle.kinds.specs.Marks.{cell, cellsOf}
+use Rattle.kinds.specs.Marks.{cellsOf}
 use Rattle.kinds.specs.Probing.{along}
+use Rattle.kinds.proofs.Alike.{total-alike}
 use Rattle.kinds.proofs.Bridge as kinds
 use Rattle.kinds.proofs.Bridge.{seenOf, spotIn, pacedOf, path-cells, seen-path, spot-path}
-use Rattle.byte_slots.specs.declared.Placed.{Placed}
-use Rattle.byte_slots.specs.declared.Placed.the-variants as placed
-use Rattle.byte_slots.specs.declared.Located.{Located}
-use Rattle.byte_slots.specs.declared.Located.the-variants as located
-use Rattle.byte_slots.specs.Memory.{Spans, Strings, strings, keyAt, slotsOf, bare, usedOf, harmful, fitting, askedOf, keptOf}
+use Rattle.byte_slots.specs.declared.InsertPlan.{InsertPlan}
+use Rattle.byte_slots.specs.declared.InsertPlan.the-variants as insertPlan
+use Rattle.byte_slots.specs.declared.RemovePlan.{RemovePlan}
+use Rattle.byte_slots.specs.declared.RemovePlan.the-variants as removePlan
+use Rattle.byte_slots.specs.Memory.{Spans, Strings, strings, keyAt, usedOf, harmful, fitting, askedOf, keptOf}
 use Rattle.byte_slots.specs.Marks.{markAt}
-use Rattle.byte_slots.specs.Planning.{placedBy, roomFor, placing, locatedBy, locating}
+use Rattle.byte_slots.specs.Planning.{insertPlanBy, roomFor, planningInsert, removePlanBy, planningRemove}
 use Rattle.byte_slots.specs.Probing.{pathFrom, pathOf, probing}
 use Rattle.byte_slots.specs.Scanning.{scanning, nexting}
-use Rattle.byte_slots.proofs.Marks.{slot-cell, slots-cells}
+use Rattle.byte_slots.proofs.Marks.{slots-cells}
 use Rattle.byte_slots.proofs.Sizes.{Sized, fitting-says}
 
 -- What entry and insert answer by their plan; `read` gives the value at a slot.
-abbrev pub spotOf : {W : Type 0} → (ℕ → W) → Placed → Or (Spot W)
-spotOf read (placed.Hit i e) = ok (occupied i (read i) e)
-spotOf read (placed.Free i e u) = ok (vacant i e)
-spotOf read (placed.Refused x) = no (numberOf x)
+abbrev pub spotOf : {W : Type 0} → (ℕ → W) → InsertPlan → Or (Spot W)
+spotOf read (insertPlan.Hit i e) = ok (occupied i (read i) e)
+spotOf read (insertPlan.Free i e u) = ok (vacant i e)
+spotOf read (insertPlan.Refused x) = no (numberOf x)
 
 -- What remove answers by its plan.
-abbrev pub lostOf : {W : Type 0} → (ℕ → W) → Located → Or (Seen W)
-lostOf read (located.Hit i e u) = ok (found (read i) i e)
-lostOf read (located.Absent e) = ok (absent e)
-lostOf read (located.Refused x) = no (numberOf x)
+abbrev pub lostOf : {W : Type 0} → (ℕ → W) → RemovePlan → Or (Seen W)
+lostOf read (removePlan.Hit i e u) = ok (found (read i) i e)
+lostOf read (removePlan.Absent e) = ok (absent e)
+lostOf read (removePlan.Refused x) = no (numberOf x)
 
 -- a key that may not be asked for is refused 2, and so one that may not be stored
 pub asked-no : (k : List ℕ) → eqb (askedOf k) 0 ≡ false → askedOf k ≡ 2
@@ -60,34 +61,21 @@ pub kept-no : (k : List ℕ) → eqb (keptOf k) 0 ≡ false → keptOf k ≡ 2
 unfolding keptOf
 kept-no k e = asked-no k e
 
--- what a slot weighs is the same whatever its value
-weigh-cell : {W : Type 0} (m : ℕ) (k : List ℕ) (v : W) → weigh length (cell m k v) ≡ weigh length (cell m k (tt {0}))
-unfolding weigh cell
-weigh-cell zero k v = refl
-weigh-cell (suc zero) k v = refl
-weigh-cell (suc (suc zero)) k v = refl
-weigh-cell (suc (suc (suc m))) k v = refl
-
-total-bare : {W : Type 0} (s : Spans) (read : ℕ → W) (n : ℕ) → total length (slotsOf s read) n ≡ total length (bare s) n
-unfolding total
-total-bare s read zero = refl
-total-bare s read (suc n) = rw (total-bare s read n, slot-cell s read n, slot-cell s (λ i. tt {0}) n, weigh-cell (markAt s n) (keyAt s n) (read n))
-
 -- both plans, by the path
-spot-placed : {W : Type 0} (read : ℕ → W) (u : ℕ) (room : Bool) (p : Probed) → spotIn room read p ≡ spotOf read (placedBy u room p)
-unfolding placedBy
-spot-placed read u room (probed.Hit i e) = refl
-spot-placed read u true (probed.Free i e) = refl
-spot-placed read u false (probed.Free i e) = refl
-spot-placed read u room (probed.Full e) = refl
-spot-placed read u room (probed.Refused x) = refl
+spot-planned : {W : Type 0} (read : ℕ → W) (u : ℕ) (room : Bool) (p : Probed) → spotIn room read p ≡ spotOf read (insertPlanBy u room p)
+unfolding insertPlanBy
+spot-planned read u room (probed.Hit i e) = refl
+spot-planned read u true (probed.Free i e) = refl
+spot-planned read u false (probed.Free i e) = refl
+spot-planned read u room (probed.Full e) = refl
+spot-planned read u room (probed.Refused x) = refl
 
-seen-located : {W : Type 0} (read : ℕ → W) (u : ℕ) (p : Probed) → seenOf read p ≡ lostOf read (locatedBy u p)
-unfolding locatedBy
-seen-located read u (probed.Hit i e) = refl
-seen-located read u (probed.Free i e) = refl
-seen-located read u (probed.Full e) = refl
-seen-located read u (probed.Refused x) = refl
+seen-planned : {W : Type 0} (read : ℕ → W) (u : ℕ) (p : Probed) → seenOf read p ≡ lostOf read (removePlanBy u p)
+unfolding removePlanBy
+seen-planned read u (probed.Hit i e) = refl
+seen-planned read u (probed.Free i e) = refl
+seen-planned read u (probed.Full e) = refl
+seen-planned read u (probed.Refused x) = refl
 
 module _ {W : Type 0} (C : Column W) (m : Strings C) where
   stand : strings C .slots m ≡ cellsOf (markAt (m .spans)) (keyAt (m .spans)) (C .read (m .words))
@@ -105,7 +93,7 @@ module _ {W : Type 0} (C : Column W) (m : Strings C) where
   -- `used`, whatever the values
   pub used-is : used (strings C) m ≡ usedOf (m .spans)
   unfolding used usedOf
-  used-is = total-bare (m .spans) (C .read (m .words)) (length (m .spans .marks))
+  used-is = rw (stand, slots-cells (m .spans) (λ i. tt {0})) (total-alike (markAt (m .spans)) (keyAt (m .spans)) (C .read (m .words)) (λ i. tt) length (length (m .spans .marks)))
 
   module _ (k : List ℕ) where
     -- the path over the spans is the path, in slots
@@ -143,23 +131,23 @@ module _ {W : Type 0} (C : Column W) (m : Strings C) where
           (λ a. rw (a, asked-no k a))))
           (λ f. rw f))
 
-      pub remove-locating : remove (strings C) m k ≡ lostOf (C .read (m .words)) (locating (m .spans) k)
-      unfolding remove need pass locating
-      remove-locating = rw long (by-bool (fitting (m .spans))
+      pub remove-planning : remove (strings C) m k ≡ lostOf (C .read (m .words)) (planningRemove (m .spans) k)
+      unfolding remove need pass planningRemove
+      remove-planning = rw long (by-bool (fitting (m .spans))
           (λ f. rw f (by-bool (eqb (askedOf k) 0)
           (λ a. rw (a, eqb-true (askedOf k) 0 a) (by-bool (harmful (m .spans))
           (λ h. rw h)
-          (λ h. rw h (seen-is ∙ seen-located (C .read (m .words)) (usedOf (m .spans)) (pathOf (m .spans) k)))))
+          (λ h. rw h (seen-is ∙ seen-planned (C .read (m .words)) (usedOf (m .spans)) (pathOf (m .spans) k)))))
           (λ a. rw (a, asked-no k a))))
           (λ f. rw f))
 
-      pub entry-placing : entry (strings C) m k ≡ spotOf (C .read (m .words)) (placing (m .spans) k)
-      unfolding entry need pass placing
-      entry-placing = rw long (by-bool (fitting (m .spans))
+      pub entry-planning : entry (strings C) m k ≡ spotOf (C .read (m .words)) (planningInsert (m .spans) k)
+      unfolding entry need pass planningInsert
+      entry-planning = rw long (by-bool (fitting (m .spans))
           (λ f. rw f (by-bool (eqb (keptOf k) 0)
           (λ a. rw (a, eqb-true (keptOf k) 0 a) (by-bool (harmful (m .spans))
           (λ h. rw h)
-          (λ h. rw h (spot-is ∙ spot-placed (C .read (m .words)) (usedOf (m .spans)) (roomFor (m .spans) k) (pathOf (m .spans) k)))))
+          (λ h. rw h (spot-is ∙ spot-planned (C .read (m .words)) (usedOf (m .spans)) (roomFor (m .spans) k) (pathOf (m .spans) k)))))
           (λ a. rw (a, kept-no k a))))
           (λ f. rw f))
 

@@ -6,11 +6,15 @@ pub mod Paper
 pub mod Places
 pub mod Tiled
 pub mod Writes
+pub mod Beside
 pub mod Bridge
 pub mod Eights
 pub mod Equal
 pub mod Marks
+pub mod MapSizes
+pub mod Planning
 pub mod Plans
+pub mod Seeking
 pub mod Sets
 pub mod Sights
 pub mod Sizes

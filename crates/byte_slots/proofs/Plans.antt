@@ -14,12 +14,12 @@ use Rattle.digest.specs.Home.{homeOf}
 use Rattle.kinds.specs.declared.Probed.{Probed}
 use Rattle.byte_slots.specs.declared.Surveyed.{Surveyed}
 use Rattle.byte_slots.specs.declared.Surveyed.the-variants as surveyed
-use Rattle.byte_slots.specs.declared.Placed.{Placed}
-use Rattle.byte_slots.specs.declared.Placed.the-variants as placed
-use Rattle.byte_slots.specs.declared.Located.{Located}
-use Rattle.byte_slots.specs.declared.Located.the-variants as located
+use Rattle.byte_slots.specs.declared.InsertPlan.{InsertPlan}
+use Rattle.byte_slots.specs.declared.InsertPlan.the-variants as insertPlan
+use Rattle.byte_slots.specs.declared.RemovePlan.{RemovePlan}
+use Rattle.byte_slots.specs.declared.RemovePlan.the-variants as removePlan
 use Rattle.byte_slots.specs.Memory.{Spans, bare, usedOf, harmful, fitting, askedOf, keptOf}
-use Rattle.byte_slots.specs.Planning.{placedBy, roomFor, placing, locatedBy, locating}
+use Rattle.byte_slots.specs.Planning.{insertPlanBy, roomFor, planningInsert, removePlanBy, planningRemove}
 use Rattle.byte_slots.specs.Probing.{pathFrom, pathOf}
 use Rattle.byte_slots.specs.Surveying.{surveying}
 
@@ -49,38 +49,38 @@ module _ (s : Spans) {r : Surveyed} (p : r ≡ surveying s) where
 
 -- the plans, by the tests in their order
 module _ (s : Spans) (k : List ℕ) {b : Bool} (p : b ≡ fitting s) where
-  pub placing-unfit : b ≡ false → placed.Refused refusal.Sizes ≡ placing s k
-  unfolding placing
-  placing-unfit q = rw (sym p ∙ q)
+  pub plan-insert-unfit : b ≡ false → insertPlan.Refused refusal.Sizes ≡ planningInsert s k
+  unfolding planningInsert
+  plan-insert-unfit q = rw (sym p ∙ q)
 
-  pub locating-unfit : b ≡ false → located.Refused refusal.Sizes ≡ locating s k
-  unfolding locating
-  locating-unfit q = rw (sym p ∙ q)
+  pub plan-remove-unfit : b ≡ false → removePlan.Refused refusal.Sizes ≡ planningRemove s k
+  unfolding planningRemove
+  plan-remove-unfit q = rw (sym p ∙ q)
 
   module _ (q : b ≡ true) {t : Bool} (w : t ≡ eqb (keptOf k) 0) where
-    pub placing-long : t ≡ false → placed.Refused refusal.LongKey ≡ placing s k
-    unfolding placing
-    placing-long e = rw (sym p ∙ q, sym w ∙ e)
+    pub plan-insert-long : t ≡ false → insertPlan.Refused refusal.LongKey ≡ planningInsert s k
+    unfolding planningInsert
+    plan-insert-long e = rw (sym p ∙ q, sym w ∙ e)
 
     module _ (e : t ≡ true) {r : Surveyed} (v : r ≡ surveying s) where
-      pub placing-bad : r ≡ surveyed.Bad → placed.Refused refusal.Damaged ≡ placing s k
-      unfolding placing
-      placing-bad x = rw (sym p ∙ q, sym w ∙ e, surveyed-bad s v x)
+      pub plan-insert-bad : r ≡ surveyed.Bad → insertPlan.Refused refusal.Damaged ≡ planningInsert s k
+      unfolding planningInsert
+      plan-insert-bad x = rw (sym p ∙ q, sym w ∙ e, surveyed-bad s v x)
 
-      pub placing-path : {u h : ℕ} {f : Probed} {a : Placed} → r ≡ surveyed.Used u → h ≡ homeOf 0 (length (s .marks)) k → f ≡ pathFrom s h k → a ≡ placedBy u (leb (length k) (length (s .arena) - u)) f → a ≡ placing s k
-      unfolding placing roomFor pathOf
-      placing-path x i y z = let (n, o) = surveyed-used s v x in rw (sym p ∙ q, sym w ∙ e, n, ← i, ← y, ← o) z
+      pub plan-insert-path : {u h : ℕ} {f : Probed} {a : InsertPlan} → r ≡ surveyed.Used u → h ≡ homeOf 0 (length (s .marks)) k → f ≡ pathFrom s h k → a ≡ insertPlanBy u (leb (length k) (length (s .arena) - u)) f → a ≡ planningInsert s k
+      unfolding planningInsert roomFor pathOf
+      plan-insert-path x i y z = let (n, o) = surveyed-used s v x in rw (sym p ∙ q, sym w ∙ e, n, ← i, ← y, ← o) z
 
   module _ (q : b ≡ true) {t : Bool} (w : t ≡ eqb (askedOf k) 0) where
-    pub locating-long : t ≡ false → located.Refused refusal.LongKey ≡ locating s k
-    unfolding locating
-    locating-long e = rw (sym p ∙ q, sym w ∙ e)
+    pub plan-remove-long : t ≡ false → removePlan.Refused refusal.LongKey ≡ planningRemove s k
+    unfolding planningRemove
+    plan-remove-long e = rw (sym p ∙ q, sym w ∙ e)
 
     module _ (e : t ≡ true) {r : Surveyed} (v : r ≡ surveying s) where
-      pub locating-bad : r ≡ surveyed.Bad → located.Refused refusal.Damaged ≡ locating s k
-      unfolding locating
-      locating-bad x = rw (sym p ∙ q, sym w ∙ e, surveyed-bad s v x)
+      pub plan-remove-bad : r ≡ surveyed.Bad → removePlan.Refused refusal.Damaged ≡ planningRemove s k
+      unfolding planningRemove
+      plan-remove-bad x = rw (sym p ∙ q, sym w ∙ e, surveyed-bad s v x)
 
-      pub locating-path : {u h : ℕ} {f : Probed} {a : Located} → r ≡ surveyed.Used u → h ≡ homeOf 0 (length (s .marks)) k → f ≡ pathFrom s h k → a ≡ locatedBy u f → a ≡ locating s k
-      unfolding locating pathOf
-      locating-path x i y z = let (n, o) = surveyed-used s v x in rw (sym p ∙ q, sym w ∙ e, n, ← i, ← y, ← o) z
+      pub plan-remove-path : {u h : ℕ} {f : Probed} {a : RemovePlan} → r ≡ surveyed.Used u → h ≡ homeOf 0 (length (s .marks)) k → f ≡ pathFrom s h k → a ≡ removePlanBy u f → a ≡ planningRemove s k
+      unfolding planningRemove pathOf
+      plan-remove-path x i y z = let (n, o) = surveyed-used s v x in rw (sym p ∙ q, sym w ∙ e, n, ← i, ← y, ← o) z

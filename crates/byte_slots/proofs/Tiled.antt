@@ -94,15 +94,15 @@ pack g t (suc n) {live} {off} {len} {u} T h = one (h n (omega arith)) (pack g t 
     rest i l (idle a e) = idle (λ b. a (b .0)) e
 
 -- one of the first n numbers has a property that is decided, or none has
-seek : {P : ℕ → Type 0} (n : ℕ) → ((i : ℕ) → i < n → P i ⊎ (P i → ⊥)) → ((i : ℕ) × P i) ⊎ ((i : ℕ) → i < n → P i → ⊥)
-seek zero h = inr (λ i l p. omega arith)
-seek {P} (suc n) h = ⊎-elim (λ p. inl (n, p))
-    (λ q. ⊎-elim inl (λ none. inr (λ i l p. by-lt i n (λ b e. none i b p) (λ b e. let r : i ≡ n = omega arith in q (subst P r p)))) (seek n (λ i l. h i (omega arith))))
+map_probe : {P : ℕ → Type 0} (n : ℕ) → ((i : ℕ) → i < n → P i ⊎ (P i → ⊥)) → ((i : ℕ) × P i) ⊎ ((i : ℕ) → i < n → P i → ⊥)
+map_probe zero h = inr (λ i l p. omega arith)
+map_probe {P} (suc n) h = ⊎-elim (λ p. inl (n, p))
+    (λ q. ⊎-elim inl (λ none. inr (λ i l p. by-lt i n (λ b e. none i b p) (λ b e. let r : i ≡ n = omega arith in q (subst P r p)))) (map_probe n (λ i l. h i (omega arith))))
     (h n (omega arith))
 
 -- Spans that tile u bytes and weigh u cover each of these.
 pub cover : {K W : Type 0} (g : K → ℕ) (t : Table K W) (n : ℕ) {live : ℕ → Type 0} {off len : ℕ → ℕ} {u : ℕ} → Tiled live off len u → ((i : ℕ) → i < n → Counted (live i) (weigh g (t i)) (len i)) → ((i : ℕ) → live i → i < n) → total g t n ≡ u → (k : ℕ) → k < u → (i : ℕ) × live i × (off i ≤ k) × (k < off i + len i)
-cover g t n {live} {off} {len} {u} T h high e k l = ⊎-elim (λ r. (r .0, r .1 .0, r .1 .1, r .1 .2)) (λ none. absurd (hole none)) (seek n (λ i b. decided i (h i b)))
+cover g t n {live} {off} {len} {u} T h high e k l = ⊎-elim (λ r. (r .0, r .1 .0, r .1 .1, r .1 .2)) (λ none. absurd (hole none)) (map_probe n (λ i b. decided i (h i b)))
   where
     Holds : ℕ → Type 0
     Holds i = live i × (off i ≤ k) × (k < off i + len i)

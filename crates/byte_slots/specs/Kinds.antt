@@ -30,12 +30,12 @@ unfoldable pub insertOf : Strings values → List ℕ → ℕ → Told (Strings 
 insertOf m k v = told (storedSaid (usedOf (m .spans)) (entry maps m k)) (after-insert maps m k v)
 
 -- A byte set's insert: a fresh key goes to the offset `used`.
-unfoldable pub joinOf : Strings nothing → List ℕ → Told (Strings nothing)
-joinOf m k = told (joinedSaid (usedOf (m .spans)) (entry sets m k)) (after-insert sets m k tt)
+unfoldable pub setInsertOf : Strings nothing → List ℕ → Told (Strings nothing)
+setInsertOf m k = told (joinedSaid (usedOf (m .spans)) (entry sets m k)) (after-insert sets m k tt)
 
 -- A byte set's get: the stored key's span.
-unfoldable pub spanOf : Strings nothing → List ℕ → Numbers
-spanOf m k = spannedSaid (offsetAt (m .spans)) (lengthAt (m .spans)) (get sets m k)
+unfoldable pub setGetOf : Strings nothing → List ℕ → Numbers
+setGetOf m k = spannedSaid (offsetAt (m .spans)) (lengthAt (m .spans)) (get sets m k)
 
 -- The slots of a step of a byte map's walk from `at`, so many; and a step with a budget.
 unfoldable pub paceOf : Strings values → ℕ → ℕ → Numbers

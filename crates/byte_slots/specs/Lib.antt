@@ -9,5 +9,6 @@ pub mod Maps
 pub mod Sets
 pub mod Planning
 pub mod Probing
+pub mod Seeking
 pub mod Scanning
 pub mod Surveying

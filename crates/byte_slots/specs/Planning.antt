@@ -7,45 +7,54 @@ use lib.ListN.{length}
 use Rattle.answers.specs.declared.Refusal.the-variants as refusal
 use Rattle.kinds.specs.declared.Probed.{Probed}
 use Rattle.kinds.specs.declared.Probed.the-variants as probed
-use Rattle.byte_slots.specs.declared.Placed.{Placed}
-use Rattle.byte_slots.specs.declared.Placed.the-variants as placed
-use Rattle.byte_slots.specs.declared.Located.{Located}
-use Rattle.byte_slots.specs.declared.Located.the-variants as located
-use Rattle.byte_slots.specs.Memory.{Spans, usedOf, harmful, fitting, askedOf, keptOf}
+use Rattle.byte_slots.specs.declared.InsertPlan.{InsertPlan}
+use Rattle.byte_slots.specs.declared.InsertPlan.the-variants as insertPlan
+use Rattle.byte_slots.specs.declared.RemovePlan.{RemovePlan}
+use Rattle.byte_slots.specs.declared.RemovePlan.the-variants as removePlan
+use Rattle.kinds.specs.Columns.{values}
+use Rattle.byte_slots.specs.Memory.{Spans, Strings, usedOf, harmful, fitting, askedOf, keptOf}
 use Rattle.byte_slots.specs.Probing.{pathOf}
+use Rattle.byte_slots.specs.Seeking.{whereLong}
 
 -- What a storing call makes of its path, where u bytes are used, and there is room for the key or not.
-unfoldable pub placedBy : ℕ → Bool → Probed → Placed
-placedBy u room (probed.Hit i e) = placed.Hit i e
-placedBy u room (probed.Free i e) = cond room (placed.Free i e u) (placed.Refused refusal.NoBytes)
-placedBy u room (probed.Full e) = placed.Refused refusal.NoSlot
-placedBy u room (probed.Refused x) = placed.Refused x
+unfoldable pub insertPlanBy : ℕ → Bool → Probed → InsertPlan
+insertPlanBy u room (probed.Hit i e) = insertPlan.Hit i e
+insertPlanBy u room (probed.Free i e) = cond room (insertPlan.Free i e u) (insertPlan.Refused refusal.NoBytes)
+insertPlanBy u room (probed.Full e) = insertPlan.Refused refusal.NoSlot
+insertPlanBy u room (probed.Refused x) = insertPlan.Refused x
 
 -- Whether the key's bytes fit beside the used ones.
 unfoldable pub roomFor : Spans → List ℕ → Bool
 roomFor s k = leb (length k) (length (s .arena) - usedOf s)
 
 -- The plan of a call that stores a key: refusals 1, 2 and 5, then what its path says.
-unfoldable pub placing : Spans → List ℕ → Placed
-placing s k =
+unfoldable pub planningInsert : Spans → List ℕ → InsertPlan
+planningInsert s k =
     cond (fitting s)
     (cond (eqb (keptOf k) 0)
-    (cond (harmful s) (placed.Refused refusal.Damaged) (placedBy (usedOf s) (roomFor s k) (pathOf s k)))
-    (placed.Refused refusal.LongKey))
-    (placed.Refused refusal.Sizes)
+    (cond (harmful s) (insertPlan.Refused refusal.Damaged) (insertPlanBy (usedOf s) (roomFor s k) (pathOf s k)))
+    (insertPlan.Refused refusal.LongKey))
+    (insertPlan.Refused refusal.Sizes)
 
 -- What remove makes of its path, where u bytes are used.
-unfoldable pub locatedBy : ℕ → Probed → Located
-locatedBy u (probed.Hit i e) = located.Hit i e u
-locatedBy u (probed.Free i e) = located.Absent e
-locatedBy u (probed.Full e) = located.Absent e
-locatedBy u (probed.Refused x) = located.Refused x
+unfoldable pub removePlanBy : ℕ → Probed → RemovePlan
+removePlanBy u (probed.Hit i e) = removePlan.Hit i e u
+removePlanBy u (probed.Free i e) = removePlan.Absent e
+removePlanBy u (probed.Full e) = removePlan.Absent e
+removePlanBy u (probed.Refused x) = removePlan.Refused x
 
 -- The plan of remove: refusals 1, 2 and 5, then what its path says.
-unfoldable pub locating : Spans → List ℕ → Located
-locating s k =
+unfoldable pub planningRemove : Spans → List ℕ → RemovePlan
+planningRemove s k =
     cond (fitting s)
     (cond (eqb (askedOf k) 0)
-    (cond (harmful s) (located.Refused refusal.Damaged) (locatedBy (usedOf s) (pathOf s k)))
-    (located.Refused refusal.LongKey))
-    (located.Refused refusal.Sizes)
+    (cond (harmful s) (removePlan.Refused refusal.Damaged) (removePlanBy (usedOf s) (pathOf s k)))
+    (removePlan.Refused refusal.LongKey))
+    (removePlan.Refused refusal.Sizes)
+
+-- The plans in a map: refusal 1 where there are not as many values as marks.
+unfoldable pub planningMapInsert : Strings values → List ℕ → InsertPlan
+planningMapInsert m k = whereLong m (planningInsert (m .spans) k) (insertPlan.Refused refusal.Sizes)
+
+unfoldable pub planningMapRemove : Strings values → List ℕ → RemovePlan
+planningMapRemove m k = whereLong m (planningRemove (m .spans) k) (removePlan.Refused refusal.Sizes)

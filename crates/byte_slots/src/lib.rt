@@ -1,4 +1,4 @@
-// Byte tables without their values: sizes, the words of a slot, the probing loop, the scan, the survey, and the plans of insert and remove.
+// Byte tables: sizes, the words of a slot, the probing loop, the scan, the survey, and the plans of insert and remove; then the sizes, the probing and the plans of a map, whose values are as many as its marks.
 ghost use mathlib.Core.Path.{_≡_};
 ghost use mathlib.Core.Bool.{true};
 ghost use Prim.Native.Nat.{_+_, _-_, _≤_, _<_};
@@ -6,11 +6,15 @@ ghost use lib.Dec.{eqb, leb};
 ghost use lib.ListN.{length, getD, set, take, drop};
 ghost use Rattle.lists.specs.Bytes.{le};
 ghost use Rattle.byte_slots.specs.Keys.{sameBytes};
+ghost use Rattle.kinds.specs.Calls.{sizedOf};
+ghost use Rattle.byte_slots.specs.Kinds.{maps};
+ghost use Rattle.byte_slots.specs.Maps.{before};
 ghost use Rattle.byte_slots.specs.Memory.{spansNow, spansBefore, fitting, askedOf, keptOf};
 ghost use Rattle.byte_slots.specs.Marks.{markAt};
 ghost use Rattle.byte_slots.specs.Probing.{sightAt, pathFrom, probing};
-ghost use Rattle.byte_slots.specs.Planning.{placedBy, placing, locatedBy, locating};
+ghost use Rattle.byte_slots.specs.Planning.{insertPlanBy, planningInsert, planningMapInsert, removePlanBy, planningRemove, planningMapRemove};
 ghost use Rattle.byte_slots.specs.Scanning.{scanning, nexting};
+ghost use Rattle.byte_slots.specs.Seeking.{probingMap};
 ghost use Rattle.byte_slots.specs.Surveying.{higherEnd, surveying};
 use answers::Refusal;
 use digest::KEY_LIMIT;
@@ -35,14 +39,14 @@ pub enum Surveyed {
 }
 
 // The plan of a call that stores a key: the key's slot, or a free slot with `used`, each with the examined number; or a refusal.
-pub enum Placed {
+pub enum InsertPlan {
     Hit(usize, usize),
     Free(usize, usize, usize),
     Refused(Refusal),
 }
 
 // The plan of remove: the key's slot with the examined number and `used`, or the examined number of an absent key; or a refusal.
-pub enum Located {
+pub enum RemovePlan {
     Hit(usize, usize, usize),
     Absent(usize),
     Refused(Refusal),
@@ -340,26 +344,32 @@ pub fn survey(marks: &[u8], offsets: &[u16], lengths: &[u8], arena: &[u8]) -> Su
 }
 
 // What a storing call makes of its path: an absent key needs a free slot, and its bytes beside the `used` ones.
-fn placed_by(found: Probed, used: usize, size: usize, length: usize) -> Placed
+fn insert_plan_by(found: Probed, used: usize, size: usize, length: usize) -> InsertPlan
     requires { ⌜ used ≤ size ⌝ }
-    ensures { λ r. ⌜ r ≡ placedBy used (leb length (size - used)) found ⌝ }
+    ensures { λ r. ⌜ r ≡ insertPlanBy used (leb length (size - used)) found ⌝ }
 {
     match found {
-        Probed::Hit(slot, examined) => Placed::Hit(slot, examined),
+        Probed::Hit(slot, examined) => InsertPlan::Hit(slot, examined),
         Probed::Free(slot, examined) => {
             if length <= size - used {
-                return Placed::Free(slot, examined, used);
+                return InsertPlan::Free(slot, examined, used);
             }
-            Placed::Refused(Refusal::NoBytes)
+            InsertPlan::Refused(Refusal::NoBytes)
         }
-        Probed::Full(_) => Placed::Refused(Refusal::NoSlot),
-        Probed::Refused(refusal) => Placed::Refused(refusal),
+        Probed::Full(_) => InsertPlan::Refused(Refusal::NoSlot),
+        Probed::Refused(refusal) => InsertPlan::Refused(refusal),
     }
 }
 
 // The plan of a call that stores a key: its tests in order, then what its path says.
-pub fn place(marks: &[u8], offsets: &[u16], lengths: &[u8], arena: &[u8], key: &[u8]) -> Placed
-    ensures { λ r. ⌜ r ≡ placing (spansBefore marks offsets lengths arena) (now (key .entry)) ⌝ }
+pub fn plan_insert(
+    marks: &[u8],
+    offsets: &[u16],
+    lengths: &[u8],
+    arena: &[u8],
+    key: &[u8],
+) -> InsertPlan
+    ensures { λ r. ⌜ r ≡ planningInsert (spansBefore marks offsets lengths arena) (now (key .entry)) ⌝ }
 {
     if fits(marks, offsets, lengths, arena) {
         if may_keep(key) {
@@ -368,31 +378,37 @@ pub fn place(marks: &[u8], offsets: &[u16], lengths: &[u8], arena: &[u8], key: &
                 Surveyed::Used(used) => {
                     let home = slot_of_key(key, marks.len() as u64, 0) as usize;
                     let path = walk_path(marks, offsets, lengths, arena, key, home);
-                    return placed_by(path, used, arena.len(), key.len());
+                    return insert_plan_by(path, used, arena.len(), key.len());
                 }
-                Surveyed::Bad => return Placed::Refused(Refusal::Damaged),
+                Surveyed::Bad => return InsertPlan::Refused(Refusal::Damaged),
             }
         }
-        return Placed::Refused(Refusal::LongKey);
+        return InsertPlan::Refused(Refusal::LongKey);
     }
-    Placed::Refused(Refusal::Sizes)
+    InsertPlan::Refused(Refusal::Sizes)
 }
 
 // What remove makes of its path.
-fn located_by(found: Probed, used: usize) -> Located
-    ensures { λ r. ⌜ r ≡ locatedBy used found ⌝ }
+fn remove_plan_by(found: Probed, used: usize) -> RemovePlan
+    ensures { λ r. ⌜ r ≡ removePlanBy used found ⌝ }
 {
     match found {
-        Probed::Hit(slot, examined) => Located::Hit(slot, examined, used),
-        Probed::Free(_, examined) => Located::Absent(examined),
-        Probed::Full(examined) => Located::Absent(examined),
-        Probed::Refused(refusal) => Located::Refused(refusal),
+        Probed::Hit(slot, examined) => RemovePlan::Hit(slot, examined, used),
+        Probed::Free(_, examined) => RemovePlan::Absent(examined),
+        Probed::Full(examined) => RemovePlan::Absent(examined),
+        Probed::Refused(refusal) => RemovePlan::Refused(refusal),
     }
 }
 
 // The plan of remove: its tests in order, then what its path says.
-pub fn locate(marks: &[u8], offsets: &[u16], lengths: &[u8], arena: &[u8], key: &[u8]) -> Located
-    ensures { λ r. ⌜ r ≡ locating (spansBefore marks offsets lengths arena) (now (key .entry)) ⌝ }
+pub fn plan_remove(
+    marks: &[u8],
+    offsets: &[u16],
+    lengths: &[u8],
+    arena: &[u8],
+    key: &[u8],
+) -> RemovePlan
+    ensures { λ r. ⌜ r ≡ planningRemove (spansBefore marks offsets lengths arena) (now (key .entry)) ⌝ }
 {
     if fits(marks, offsets, lengths, arena) {
         if may_ask(key) {
@@ -401,12 +417,73 @@ pub fn locate(marks: &[u8], offsets: &[u16], lengths: &[u8], arena: &[u8], key: 
                 Surveyed::Used(used) => {
                     let home = slot_of_key(key, marks.len() as u64, 0) as usize;
                     let path = walk_path(marks, offsets, lengths, arena, key, home);
-                    return located_by(path, used);
+                    return remove_plan_by(path, used);
                 }
-                Surveyed::Bad => return Located::Refused(Refusal::Damaged),
+                Surveyed::Bad => return RemovePlan::Refused(Refusal::Damaged),
             }
         }
-        return Located::Refused(Refusal::LongKey);
+        return RemovePlan::Refused(Refusal::LongKey);
     }
-    Located::Refused(Refusal::Sizes)
+    RemovePlan::Refused(Refusal::Sizes)
+}
+
+// Whether the lent arrays may be a map: those of the keys, and as many values.
+pub fn map_fits(marks: &[u8], offsets: &[u16], lengths: &[u8], values: &[u64], arena: &[u8]) -> bool
+    ensures { λ r. ⌜ r ≡ sizedOf maps (before marks offsets lengths values arena) ⌝ }
+{
+    if fits(marks, offsets, lengths, arena) {
+        return marks.len() == values.len();
+    }
+    false
+}
+
+// The probing of a key in a map: refusal 1, then what the probing answers.
+pub fn map_probe(
+    marks: &[u8],
+    offsets: &[u16],
+    lengths: &[u8],
+    values: &[u64],
+    arena: &[u8],
+    key: &[u8],
+) -> Probed
+    ensures { λ r. ⌜ r ≡ probingMap (before marks offsets lengths values arena) (now (key .entry)) ⌝ }
+{
+    if marks.len() == values.len() {
+        return probe(marks, offsets, lengths, arena, key);
+    }
+    Probed::Refused(Refusal::Sizes)
+}
+
+// The plan of insert in a map: refusal 1, then what the plan answers.
+pub fn map_plan_insert(
+    marks: &[u8],
+    offsets: &[u16],
+    lengths: &[u8],
+    values: &[u64],
+    arena: &[u8],
+    key: &[u8],
+) -> InsertPlan
+    ensures { λ r. ⌜ r ≡ planningMapInsert (before marks offsets lengths values arena) (now (key .entry)) ⌝ }
+{
+    if marks.len() == values.len() {
+        return plan_insert(marks, offsets, lengths, arena, key);
+    }
+    InsertPlan::Refused(Refusal::Sizes)
+}
+
+// The plan of remove in a map: refusal 1, then what the plan answers.
+pub fn map_plan_remove(
+    marks: &[u8],
+    offsets: &[u16],
+    lengths: &[u8],
+    values: &[u64],
+    arena: &[u8],
+    key: &[u8],
+) -> RemovePlan
+    ensures { λ r. ⌜ r ≡ planningMapRemove (before marks offsets lengths values arena) (now (key .entry)) ⌝ }
+{
+    if marks.len() == values.len() {
+        return plan_remove(marks, offsets, lengths, arena, key);
+    }
+    RemovePlan::Refused(Refusal::Sizes)
 }

@@ -1,7 +1,9 @@
 -- The laws that all kinds of tables share.
+pub mod Alike
 pub mod Beside
 pub mod Bridge
 pub mod Columns
+pub mod Copying
 pub mod Counts
 pub mod LentWalks
 pub mod Moved

@@ -14,7 +14,7 @@ use byte_map_occupied::held_numbers;
 use byte_map_occupied::swapped_numbers;
 use byte_map_occupied::taken_numbers;
 use byte_map_vacant::Vacant;
-use byte_map_vacant::standing_numbers;
+use byte_map_vacant::in_slot_numbers;
 
 // Where a key stands or would go.
 #[no_mangle]
@@ -125,7 +125,7 @@ pub extern "C" fn moss_byte_map_vacant_insert(
     let handle = Vacant {
         slot: slot as usize,
     };
-    standing_numbers(handle.insert(marks, offsets, lengths, values, arena, key, value))
+    in_slot_numbers(handle.insert(marks, offsets, lengths, values, arena, key, value))
 }
 
 // Keeps a present value, else puts the default in.
@@ -144,7 +144,7 @@ pub extern "C" fn moss_byte_map_or_insert(
     ensures { λ r. ⌜ told r (after marks offsets lengths values arena) ≡ orInsertOf maps (before marks offsets lengths values arena) (handleAs (length (now (marks .entry))) case slot) (now (key .entry)) default ⌝ }
 {
     let handle = entry_by_case(case, slot);
-    standing_numbers(handle.or_insert(marks, offsets, lengths, values, arena, key, default))
+    in_slot_numbers(handle.or_insert(marks, offsets, lengths, values, arena, key, default))
 }
 
 // Replaces a present value, else puts the value in.
@@ -163,5 +163,5 @@ pub extern "C" fn moss_byte_map_insert_entry(
     ensures { λ r. ⌜ told r (after marks offsets lengths values arena) ≡ insertEntryOf maps (before marks offsets lengths values arena) (handleAs (length (now (marks .entry))) case slot) (now (key .entry)) value ⌝ }
 {
     let handle = entry_by_case(case, slot);
-    standing_numbers(handle.insert_entry(marks, offsets, lengths, values, arena, key, value))
+    in_slot_numbers(handle.insert_entry(marks, offsets, lengths, values, arena, key, value))
 }

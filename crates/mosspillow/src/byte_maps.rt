@@ -1,4 +1,4 @@
-// The byte map for C: each call as byte_map, byte_map_reads, byte_map_copy, byte_map_union and byte_map_walk have it, its answer as numbers.
+// The byte map for C: each call as byte_map, byte_map_reads, byte_map_union and byte_map_walk have it, its answer as numbers.
 ghost use mathlib.Core.Path.{_≡_};
 ghost use Rattle.kinds.specs.Told.{told};
 ghost use Rattle.kinds.specs.Moved.{movedOn};
@@ -179,7 +179,7 @@ pub extern "C" fn moss_byte_map_copy(
 ) -> Numbers
     ensures { λ r. ⌜ told r (after «to_marks» «to_offsets» «to_lengths» «to_values» «to_arena») ≡ copyOf maps (before «to_marks» «to_offsets» «to_lengths» «to_values» «to_arena») (before marks offsets lengths values arena) ⌝ }
 {
-    outcome_numbers(byte_map_copy::copy(
+    outcome_numbers(byte_map::copy(
         to_marks,
         to_offsets,
         to_lengths,

@@ -1,9 +1,9 @@
-// The byte set for C: each call as byte_set, byte_set_reads, byte_set_copy and byte_set_walk have it, its answer as numbers.
+// The byte set for C: each call as byte_set, byte_set_reads and byte_set_walk have it, its answer as numbers.
 ghost use mathlib.Core.Path.{_≡_};
 ghost use Rattle.kinds.specs.Told.{told};
 ghost use Rattle.kinds.specs.Moved.{movedOn};
 ghost use Rattle.kinds.specs.Calls.{makeOf, capacityOf, lenOf, isEmptyOf, reserveOf, containsOf, copyOf, droppedOf};
-ghost use Rattle.byte_slots.specs.Kinds.{sets, joinOf, spanOf, setStepOf};
+ghost use Rattle.byte_slots.specs.Kinds.{sets, setInsertOf, setGetOf, setStepOf};
 ghost use Rattle.byte_slots.specs.Sets.{before, after};
 use answers::Numbers;
 use answers::contained_numbers;
@@ -105,7 +105,7 @@ pub extern "C" fn moss_byte_set_get(
     arena: &[u8],
     key: &[u8],
 ) -> Numbers
-    ensures { λ r. ⌜ r ≡ spanOf (before marks offsets lengths arena) (now (key .entry)) ⌝ }
+    ensures { λ r. ⌜ r ≡ setGetOf (before marks offsets lengths arena) (now (key .entry)) ⌝ }
 {
     spanned_numbers(byte_set_reads::get(marks, offsets, lengths, arena, key))
 }
@@ -133,7 +133,7 @@ pub extern "C" fn moss_byte_set_insert(
     arena: &mut [u8],
     key: &[u8],
 ) -> Numbers
-    ensures { λ r. ⌜ told r (after marks offsets lengths arena) ≡ joinOf (before marks offsets lengths arena) (now (key .entry)) ⌝ }
+    ensures { λ r. ⌜ told r (after marks offsets lengths arena) ≡ setInsertOf (before marks offsets lengths arena) (now (key .entry)) ⌝ }
 {
     joined_numbers(byte_set::insert(marks, offsets, lengths, arena, key))
 }
@@ -166,7 +166,7 @@ pub extern "C" fn moss_byte_set_copy(
 ) -> Numbers
     ensures { λ r. ⌜ told r (after «to_marks» «to_offsets» «to_lengths» «to_arena») ≡ copyOf sets (before «to_marks» «to_offsets» «to_lengths» «to_arena») (before marks offsets lengths arena) ⌝ }
 {
-    outcome_numbers(byte_set_copy::copy(
+    outcome_numbers(byte_set::copy(
         to_marks,
         to_offsets,
         to_lengths,

@@ -38,7 +38,7 @@ use Rattle.kinds.proofs.Published.{reported, lowest-told, refused-same, named-o
 use Rattle.kinds.specs.Calls.{makeOf, capacityOf, lenOf, isEmptyOf, reserveOf, containsOf, copyOf, droppedOf}
 use Rattle.kinds.specs.Moved.{movedOn}
 use Rattle.byte_slots.specs.Memory.{Strings, part, usedOf, askedOf, offsetAt, lengthAt}
-use Rattle.byte_slots.specs.Kinds.{sets, joinOf, spanOf, setStepOf}
+use Rattle.byte_slots.specs.Kinds.{sets, setInsertOf, setGetOf, setStepOf}
 use Rattle.byte_slots.specs.Places.{Place, wordIn, places}
 use Rattle.byte_slots.proofs.Keys.{asked-bar, kept-bar}
 use Rattle.byte_slots.proofs.Lawful.{strings-lawful}
@@ -53,7 +53,7 @@ sets-lawful = strings-lawful nothing nothing-orderly
 
 -- Each published call tells the refusal of the theory's call.
 number-told : (w : World sets) (x : ℕ) (c : Call) → told-by w x c .numbers .refusal ≡ refusal (answer sets w x (meant w x c))
-unfolding told-by meant setMeant answer tells left leaves makeOf capacityOf lenOf isEmptyOf reserveOf containsOf copyOf droppedOf joinOf spanOf setStepOf refusal
+unfolding told-by meant setMeant answer tells left leaves makeOf capacityOf lenOf isEmptyOf reserveOf containsOf copyOf droppedOf setInsertOf setGetOf setStepOf refusal
 number-told w x make = doneSaid-refusal _ ∙ sym (reported (λ n. fine) (λ a. refl) _)
 number-told w x clear = doneSaid-refusal _ ∙ sym (reported (λ n. fine) (λ a. refl) _)
 number-told w x capacity = countSaid-refusal _ ∙ sym (reported number (λ a. refl) _)
@@ -69,7 +69,7 @@ number-told w x (step at budget) = stepSaid-refusal (spanOnlyHanded (offsetAt (w
 
 -- And leaves its memory.
 memory-told : (w : World sets) (x : ℕ) (c : Call) → told-by w x c .memory ≡ left sets w x (meant w x c)
-unfolding told-by meant setMeant answer tells left leaves makeOf capacityOf lenOf isEmptyOf reserveOf containsOf copyOf droppedOf joinOf spanOf setStepOf
+unfolding told-by meant setMeant answer tells left leaves makeOf capacityOf lenOf isEmptyOf reserveOf containsOf copyOf droppedOf setInsertOf setGetOf setStepOf
 memory-told w x make = refl
 memory-told w x clear = refl
 memory-told w x capacity = refl
@@ -99,7 +99,7 @@ sets-linked = record { number = number-told; memory = memory-told; hears = steps
 
 -- Where the set of a call's table is known, the call tells what it owes.
 owes-told : (s : Book sets) → Right sets published s → (x : ℕ) (c : Call) (f : Finite (List ℕ) (Unit {0})) → s .maps x ≡ some f → Owes s x f c (told-by (s .world) x c .numbers)
-unfolding told-by makeOf capacityOf lenOf isEmptyOf reserveOf containsOf droppedOf copyOf joinOf spanOf setStepOf doneSaid countSaid emptySaid roomSaid containedSaid droppedSaid spannedSaid joinedSaid stepSaid
+unfolding told-by makeOf capacityOf lenOf isEmptyOf reserveOf containsOf droppedOf copyOf setInsertOf setGetOf setStepOf doneSaid countSaid emptySaid roomSaid containedSaid droppedSaid spannedSaid joinedSaid stepSaid
 owes-told s h x make f e = capacity-owed sets sets-lawful (s .world x) f (h x f e) doneSaid (only 1) refl
 owes-told s h x clear f e = capacity-owed sets sets-lawful (s .world x) f (h x f e) doneSaid (only 1) refl
 owes-told s h x capacity f e = capacity-owed sets sets-lawful (s .world x) f (h x f e) countSaid _ refl
@@ -142,7 +142,7 @@ demand-1-named w x c p e = named-only sets published sets-linked (strings-steady
 
 -- A refused call tells its number, zeros elsewhere, and the walk as it came.
 refused-zeros : (w : World sets) (x : ℕ) (c : Call) → (told-by w x c .numbers .refusal ≡ 0 → ⊥) → told-by w x c .numbers ≡ refusing (told-by w x c .numbers .refusal) (given (meant w x c))
-unfolding told-by meant setMeant given makeOf capacityOf lenOf isEmptyOf reserveOf containsOf droppedOf copyOf joinOf spanOf setStepOf doneSaid countSaid emptySaid roomSaid containedSaid droppedSaid spannedSaid joinedSaid stepSaid numberIn
+unfolding told-by meant setMeant given makeOf capacityOf lenOf isEmptyOf reserveOf containsOf droppedOf copyOf setInsertOf setGetOf setStepOf doneSaid countSaid emptySaid roomSaid containedSaid droppedSaid spannedSaid joinedSaid stepSaid numberIn
 refused-zeros w x make h = zeros doneSaid 0 (λ n. refl) (λ y. refl) (Calls.capacity sets (w x)) h
 refused-zeros w x clear h = zeros doneSaid 0 (λ n. refl) (λ y. refl) (Calls.capacity sets (w x)) h
 refused-zeros w x capacity h = zeros countSaid 0 (λ n. refl) (λ y. refl) (Calls.capacity sets (w x)) h
@@ -166,7 +166,7 @@ demand-1-zeros = record {
 
 -- On any memory an accepted lookup tells its path's own examined number.
 pub demand-2-examined : PathCounted sets published
-unfolding told-by meant setMeant asked keyOf containsOf droppedOf joinOf spanOf setStepOf containedSaid droppedSaid spannedSaid joinedSaid
+unfolding told-by meant setMeant asked keyOf containsOf droppedOf setInsertOf setGetOf setStepOf containedSaid droppedSaid spannedSaid joinedSaid
 demand-2-examined w x make k q e = clash cc
 demand-2-examined w x clear k q e = clash cc
 demand-2-examined w x capacity k q e = clash cc
@@ -201,7 +201,7 @@ handed-bytes m a b (ok (none-live y d)) e q = absurd (omega arith)
 handed-bytes m a b (ok (done y)) e q = absurd (omega arith)
 
 pub demand-2-spans : (w : World sets) (x : ℕ) (c : Call) → Stands w x c (told-by w x c)
-unfolding told-by joinOf spanOf setStepOf
+unfolding told-by setInsertOf setGetOf setStepOf
 demand-2-spans w x c = (
   (λ k e. rw e (spanned-bytes (w x) k (Calls.get sets (w x) k) refl)),
   (λ k e. rw e (joined-bytes (w x) k (Calls.entry sets (w x) k) refl)),

@@ -22,7 +22,7 @@ use Rattle.kinds.specs.Published.{Published, Duty, heardAs}
 use Rattle.kinds.specs.Owed.{refusing, only, counting, standing, copying, looking, placing, Paces, spanning, handing}
 use Rattle.kinds.specs.Moved.{movedOn}
 use Rattle.byte_slots.specs.Memory.{Strings, part, offsetAt, lengthAt}
-use Rattle.byte_slots.specs.Kinds.{sets, joinOf, spanOf, setStepOf}
+use Rattle.byte_slots.specs.Kinds.{sets, setInsertOf, setGetOf, setStepOf}
 pub use Rattle.promises.specs.SetAlphabet.{make, clear, capacity, len, is-empty, reserve, copy, get, contains, insert, remove, step}
 use Rattle.promises.specs.SetAlphabet.{SetCall, setMeant}
 
@@ -39,9 +39,9 @@ told-by w x len = told (lenOf sets (w x)) (w x)
 told-by w x is-empty = told (isEmptyOf sets (w x)) (w x)
 told-by w x (reserve n) = told (reserveOf sets (w x) n) (w x)
 told-by w x (copy y) = copyOf sets (w x) (w y)
-told-by w x (get k) = told (spanOf (w x) k) (w x)
+told-by w x (get k) = told (setGetOf (w x) k) (w x)
 told-by w x (contains k) = told (containsOf sets (w x) k) (w x)
-told-by w x (insert k) = joinOf (w x) k
+told-by w x (insert k) = setInsertOf (w x) k
 told-by w x (remove k) = droppedOf sets (w x) k
 told-by w x (step at budget) = told (setStepOf (w x) at budget) (w x)
 

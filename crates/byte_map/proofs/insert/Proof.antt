@@ -1,40 +1,41 @@
 -- `byte_map::insert` meets its contract: the value changes in the key's slot, or the first free slot takes the key.
 use borrow.Author.Needs.{needs}
 use native.Mathlib.Omega.{arith}
-use Rattle.byte_map.proofs.Planning.{place-inside, place-free}
+use Rattle.byte_slots.proofs.Planning.{map-plan-insert-inside}
+use Rattle.byte_arena.proofs.Plans.{map-plan-insert-free}
 use Rattle.byte_map.proofs.Laws.{insert-hit, insert-free, insert-refused}
 use Rattle.byte_map.proofs.insert.Statement.{statement}
 use Rattle.byte_map.proofs.insert.Tie as tie
 
 mul-old : tie.Need-mul-old
-mul-old c = omega (arith, place-inside _ _ (c .before .before .before .place .ensures) (c .before .plan .given .1))
+mul-old c = omega (arith, map-plan-insert-inside _ _ (c .before .before .before .map-plan-insert .ensures) (c .before .plan .given .1))
 
 slice-read-old : tie.Need-slice-read-old
-slice-read-old c = place-inside _ _ (c .before .before .before .before .place .ensures) (c .before .before .plan .given .1)
+slice-read-old c = map-plan-insert-inside _ _ (c .before .before .before .before .map-plan-insert .ensures) (c .before .before .plan .given .1)
 
 mul-values : tie.Need-mul-values
-mul-values c = omega (arith, place-inside _ _ (c .before .before .before .before .place .ensures) (c .before .before .plan .given .1))
+mul-values c = omega (arith, map-plan-insert-inside _ _ (c .before .before .before .before .map-plan-insert .ensures) (c .before .before .plan .given .1))
 
 slice-write-values : tie.Need-slice-write-values
-slice-write-values c = place-inside _ _ (c .before .before .before .before .place .ensures) (c .before .before .plan .given .1)
+slice-write-values c = map-plan-insert-inside _ _ (c .before .before .before .before .map-plan-insert .ensures) (c .before .before .plan .given .1)
 
 fill-requires : tie.Need-fill-requires
-fill-requires c κs = place-free _ _ (c .before .before .before .before .before .before .before .place .ensures) (c .before .before .before .before .before .plan2 .given .1) .0
+fill-requires c κs = map-plan-insert-free _ _ (c .before .before .before .before .before .before .before .map-plan-insert .ensures) (c .before .before .before .before .before .plan2 .given .1) .0
 
 mul-values-2 : tie.Need-mul-values-2
-mul-values-2 c = omega (arith, place-free _ _ (c .before .before .before .before .before .before .before .before .before .before .before .before .before .before .before .before .place .ensures) (c .before .before .before .before .before .before .before .before .before .before .before .before .before .before .plan2 .given .1) .1, c .before .before .before .before .before .before .before .before .before .before .before .before .before .before .before .before .before .before .before .before .before .before .before .before .before .before .before .before .good .1 .1 .1 .0)
+mul-values-2 c = omega (arith, map-plan-insert-free _ _ (c .before .before .before .before .before .before .before .before .before .before .before .before .before .before .before .before .map-plan-insert .ensures) (c .before .before .before .before .before .before .before .before .before .before .before .before .before .before .plan2 .given .1) .1, c .before .before .before .before .before .before .before .before .before .before .before .before .before .before .before .before .before .before .before .before .before .before .before .before .before .before .before .before .good .1 .1 .1 .0)
 
 slice-write-values-2 : tie.Need-slice-write-values-2
-slice-write-values-2 c = place-free _ _ (c .before .before .before .before .before .before .before .before .before .before .before .before .before .before .before .before .place .ensures) (c .before .before .before .before .before .before .before .before .before .before .before .before .before .before .plan2 .given .1) .1
+slice-write-values-2 c = map-plan-insert-free _ _ (c .before .before .before .before .before .before .before .before .before .before .before .before .before .before .before .before .map-plan-insert .ensures) (c .before .before .before .before .before .before .before .before .before .before .before .before .before .before .plan2 .given .1) .1
 
 returns : tie.Need-returns
-returns c = insert-hit _ _ _ (c .before .before .before .before .place .ensures) (c .before .before .plan .given .1)
+returns c = insert-hit _ _ _ (c .before .before .before .before .map-plan-insert .ensures) (c .before .before .plan .given .1)
 
 returns-2 : tie.Need-returns-2
-returns-2 c = insert-free _ _ _ (c .before .before .before .before .before .before .before .before .before .before .before .before .before .before .before .before .place .ensures) (c .before .before .before .before .before .before .before .before .before .before .before .before .before .before .plan2 .given .1) (c .before .before .before .before .before .before .before .before .fill .ensures)
+returns-2 c = insert-free _ _ _ (c .before .before .before .before .before .before .before .before .before .before .before .before .before .before .before .before .map-plan-insert .ensures) (c .before .before .before .before .before .before .before .before .before .before .before .before .before .before .plan2 .given .1) (c .before .before .before .before .before .before .before .before .fill .ensures)
 
 returns-3 : tie.Need-returns-3
-returns-3 c = insert-refused _ _ _ (c .before .before .before .place .ensures) (c .before .plan3 .given .1)
+returns-3 c = insert-refused _ _ _ (c .before .before .before .map-plan-insert .ensures) (c .before .plan3 .given .1)
 
 pub insert-spec : {M : Type 1} → statement M
 insert-spec =

@@ -1,24 +1,16 @@
--- `byte_map_reads::contains_key` meets its contract: what the probing found.
+-- `byte_map_reads::contains_key` meets its contract: refusal 1 where the values do not fit, else what the keys' set tells.
+use mathlib.Core.Path.{_∙_}
 use borrow.Author.Needs.{needs}
-use Rattle.byte_map_reads.proofs.Laws.{contains-hit, contains-free, contains-full, contains-refused}
+use Rattle.byte_map_reads.proofs.Laws.{contains-as-set, contains-short}
 use Rattle.byte_map_reads.proofs.contains_key.Statement.{statement}
 use Rattle.byte_map_reads.proofs.contains_key.Tie as tie
 
 returns : tie.Need-returns
-returns c = contains-hit _ _ (c .before .before .before .seek .ensures) (c .before .seen .given .1)
+returns c = c .contains .ensures ∙ contains-as-set _ (c .before .if1 .taken) _
 
 returns-2 : tie.Need-returns-2
-returns-2 c = contains-free _ _ (c .before .before .before .seek .ensures) (c .before .seen2 .given .1)
-
-returns-3 : tie.Need-returns-3
-returns-3 c = contains-full _ _ (c .before .before .before .seek .ensures) (c .before .seen3 .given .1)
-
-returns-4 : tie.Need-returns-4
-returns-4 c = contains-refused _ _ (c .before .before .before .seek .ensures) (c .before .seen4 .given .1)
+returns-2 c = contains-short _ (c .if1 .left) _
 
 pub contains-key-spec : {M : Type 1} → statement M
-contains-key-spec =
-    tie.close
-    (tie.spec
-    (λ c κs. search needs) (λ c. search needs) (λ c. search needs) (λ c. search needs) (λ c. search needs) returns returns-2 returns-3
-    returns-4)
+contains-key-spec = tie.close (tie.spec
+    (λ c κs. search needs) returns returns-2)

@@ -1,24 +1,18 @@
--- `byte_map_reads::len` meets its contract: refusal 1 or 5, or the number of live slots.
+-- `byte_map_reads::len` meets its contract: refusal 1 where the values do not fit, else what the keys' set tells.
+use mathlib.Core.Path.{_∙_}
 use borrow.Author.Needs.{needs}
-use Rattle.byte_map_reads.proofs.Counting.{len-not}
-use Rattle.byte_map_reads.proofs.Laws.{same-long, len-live, len-bad}
+use Rattle.byte_slots.specs.Kinds.{maps, sets}
+use Rattle.kinds.proofs.Beside.{len-beside}
+use Rattle.byte_map_reads.proofs.Laws.{as-set, len-short}
 use Rattle.byte_map_reads.proofs.len.Statement.{statement}
 use Rattle.byte_map_reads.proofs.len.Tie as tie
 
-scan-requires : tie.Need-scan-requires
-scan-requires c κs = let (o, l, v) = same-long _ (c .before .map-fits .ensures) (c .if1 .taken) in (o, l)
-
 returns : tie.Need-returns
-returns c = len-live _ (c .before .before .before .before .before .map-fits .ensures) (c .before .before .before .before .if1 .taken) (c .before .before .before .scan .ensures) (c .before .seen .given .1)
+returns c = c .len .ensures ∙ len-beside maps sets (as-set _ (c .before .if1 .taken))
 
 returns-2 : tie.Need-returns-2
-returns-2 c = len-bad _ (c .before .before .before .before .map-fits .ensures) (c .before .before .before .if1 .taken) (c .before .before .scan .ensures) (c .enum-told .given .1)
-
-returns-3 : tie.Need-returns-3
-returns-3 c = len-not _ _ (c .before .map-fits .ensures) (c .if1 .left)
+returns-2 c = len-short _ (c .if1 .left)
 
 pub len-spec : {M : Type 1} → statement M
-len-spec =
-    tie.close
-    (tie.spec
-    (λ c κs. search needs) scan-requires (λ c. search needs) returns (λ c. search needs) returns-2 returns-3)
+len-spec = tie.close (tie.spec
+    (λ c κs. search needs) returns returns-2)

@@ -1,6 +1,6 @@
 -- `byte_map_union::plan` meets its contract: the sizes of both, then damage and room.
 use borrow.Author.Needs.{needs}
-use Rattle.byte_map_reads.proofs.Laws.{sized-fits}
+use Rattle.byte_slots.proofs.MapSizes.{sized-fits}
 use Rattle.byte_map_union.proofs.Plans.{left-unfit, right-unfit, room-plan}
 use Rattle.byte_map_union.proofs.plan.Statement.{statement}
 use Rattle.byte_map_union.proofs.plan.Tie as tie

@@ -1,6 +1,9 @@
 -- `byte_set::make` meets its contract: refusal 1, or every mark, word and arena byte 0.
 use borrow.Author.Needs.{needs}
-use Rattle.byte_set.proofs.Laws.{make-done, make-not}
+use Rattle.kinds.proofs.Sizing.{make-unsized}
+use Rattle.byte_slots.specs.Kinds.{sets}
+use Rattle.byte_slots.proofs.Sets.{unfit}
+use Rattle.byte_set.proofs.Laws.{make-done}
 use Rattle.byte_set.proofs.make.Statement.{statement}
 use Rattle.byte_set.proofs.make.Tie as tie
 
@@ -8,7 +11,7 @@ returns : tie.Need-returns
 returns c = make-done _ (c .before .before .before .before .before .before .before .before .before .before .before .before .before .before .fits2 .ensures) (c .before .before .before .before .before .before .before .before .before .before .before .before .before .if1 .taken) (c .before .before .before .before .before .before .before .before .wipe .ensures)
 
 returns-2 : tie.Need-returns-2
-returns-2 c = make-not _ (c .before .fits2 .ensures) (c .if1 .left)
+returns-2 c = make-unsized sets _ (unfit _ (c .before .fits2 .ensures) (c .if1 .left))
 
 pub make-spec : {M : Type 1} → statement M
 make-spec =

@@ -1,11 +1,11 @@
 -- `Occupied::get` meets its contract: what the plan says.
-use Rattle.byte_map_occupied.proofs.Grips.{get-held}
+use Rattle.byte_map_occupied.proofs.Values.{get-held}
 use borrow.Author.Needs.{needs}
 use Rattle.byte_map_occupied.proofs.Occupied.get.Statement.{statement}
 use Rattle.byte_map_occupied.proofs.Occupied.get.Tie as tie
 
 returns : tie.Need-returns
-returns c = get-held _ _ _ (c .hold .ensures)
+returns c = get-held _ _ _ (c .value-of .ensures)
 
 pub get-spec : {M : Type 1} → statement M
 get-spec = tie.close (tie.spec

@@ -5,7 +5,7 @@ use Rattle.mosspillow.proofs.byte_entries.moss_byte_map_vacant_insert.S
 use Rattle.mosspillow.proofs.byte_entries.moss_byte_map_vacant_insert.Tie as tie
 
 returns : tie.Need-returns
-returns c = handed (c .standing-numbers .ensures) (c .before .before .before .before .before .before .before .before .before .before .before .insert .ensures)
+returns c = handed (c .in-slot-numbers .ensures) (c .before .before .before .before .before .before .before .before .before .before .before .insert .ensures)
 
 pub moss-byte-map-vacant-insert-spec : {M : Type 1} → statement M
 moss-byte-map-vacant-insert-spec =

@@ -1,2 +1,0 @@
--- The definitions of the storing calls of byte maps.
-pub mod Planning

@@ -1,2 +1,0 @@
--- The definitions of the reading calls of byte maps.
-pub mod Seeking
