@@ -16,17 +16,17 @@ use Rattle.kinds.specs.declared.Probed.{Probed}
 use Rattle.kinds.specs.declared.Probed.the-variants.{Hit, Free, Full, Refused}
 use Rattle.kinds.specs.Columns.{values}
 use Rattle.int_slots.specs.Memory.{memory}
-use Rattle.int_slots.specs.Seeking.{fittingMap, seekingMap}
+use Rattle.int_slots.specs.Seeking.{probingMap}
 use Rattle.kinds.proofs.Bridge.{seenOf, spotOf}
-use Rattle.int_slots.proofs.Seeking.{remove-seeking, entry-seeking}
+use Rattle.int_slots.proofs.Seeking.{remove-probed, entry-probed}
 use Rattle.int_slots.specs.Maps.{maps}
 use Rattle.int_slots.proofs.MapSizes.{fit, unfit}
 use Rattle.kinds.specs.Told.{told}
-use Rattle.int_map.specs.Calls.{insertOf}
-use Rattle.kinds.specs.Calls.{makeOf, removeOf}
+use Rattle.int_slots.specs.Kinds.{insertOf}
+use Rattle.kinds.specs.Calls.{sizedOf, makeOf, removeOf}
 
 module _ (marks keys vs : List ℕ) where
-  module _ {b : Bool} (p : b ≡ fittingMap marks keys vs) where
+  module _ {b : Bool} (p : b ≡ sizedOf maps (memory marks keys vs)) where
     -- make and clear
     pub make-done : b ≡ true → {a d e : List ℕ} → a ≡ replicate (length marks) 0 → d ≡ replicate (length keys) 0 → e ≡ replicate (length vs) 0 → told (outcomeNumbers outcome.Done) (memory a d e) ≡ makeOf maps (memory marks keys vs)
     unfolding makeOf capacity after-make acted need doneSaid outcomeNumbers
@@ -36,14 +36,14 @@ module _ (marks keys vs : List ℕ) where
     unfolding makeOf capacity after-make acted need doneSaid outcomeNumbers
     make-not q = rw (unfit marks keys vs p q)
 
-  module _ (k : ℕ) {r : Probed} (p : r ≡ seekingMap marks keys vs k) where
+  module _ (k : ℕ) {r : Probed} (p : r ≡ probingMap (memory marks keys vs) k) where
     remove-is : remove maps (memory marks keys vs) k ≡ seenOf (λ i. getD vs i 0) r
-    unfolding seekingMap
-    remove-is = rw p (remove-seeking values (memory marks keys vs) k)
+    unfolding probingMap
+    remove-is = rw p (remove-probed values (memory marks keys vs) k)
 
     entry-is : entry maps (memory marks keys vs) k ≡ spotOf (λ i. getD vs i 0) r
-    unfolding seekingMap
-    entry-is = rw p (entry-seeking values (memory marks keys vs) k)
+    unfolding probingMap
+    entry-is = rw p (entry-probed values (memory marks keys vs) k)
 
     -- insert
     pub insert-hit : (v : ℕ) {s e : ℕ} → r ≡ Hit s e → told (insertedNumbers (inserted.Replaced (getD vs s 0) s e)) (memory marks keys (set vs s v)) ≡ insertOf (memory marks keys vs) k v

@@ -6,7 +6,7 @@ use Rattle.kinds.specs.Columns.{values}
 use Rattle.kinds.specs.Told.{SettledWith}
 use Rattle.kinds.proofs.Settled.{settled-with}
 use Rattle.int_slots.specs.Memory.{Cells}
-use Rattle.int_map.specs.Calls.{insertOf}
+use Rattle.int_slots.specs.Kinds.{insertOf}
 use Rattle.kinds.specs.Calls.{makeOf, removeOf}
 use Rattle.int_slots.specs.Maps.{maps}
 

@@ -2,7 +2,7 @@
 ghost use mathlib.Core.Path.{_≡_};
 ghost use Rattle.answers.specs.Numbers.{outcomeNumbers, insertedNumbers, removedNumbers};
 ghost use Rattle.kinds.specs.Told.{told};
-ghost use Rattle.int_map.specs.Calls.{insertOf};
+ghost use Rattle.int_slots.specs.Kinds.{insertOf};
 ghost use Rattle.kinds.specs.Calls.{makeOf, removeOf};
 ghost use Rattle.int_slots.specs.Maps.{maps, before, after};
 use answers::Inserted;
@@ -43,7 +43,7 @@ pub fn insert(
 ) -> Inserted
     ensures { λ r. ⌜ told (insertedNumbers r) (after marks keys values) ≡ insertOf (before marks keys values) key value ⌝ }
 {
-    let seen = int_slots::seek(marks, keys, values, key);
+    let seen = int_slots::map_probe(marks, keys, values, key);
     match seen {
         Probed::Hit(slot, examined) => {
             let old = values[slot];
@@ -65,7 +65,7 @@ pub fn insert(
 pub fn remove(marks: &mut [u8], keys: &mut [u64], values: &mut [u64], key: u64) -> Removed
     ensures { λ r. ⌜ told (removedNumbers r) (after marks keys values) ≡ removeOf maps (before marks keys values) key ⌝ }
 {
-    let seen = int_slots::seek(marks, keys, values, key);
+    let seen = int_slots::map_probe(marks, keys, values, key);
     match seen {
         Probed::Hit(slot, examined) => {
             let old = values[slot];

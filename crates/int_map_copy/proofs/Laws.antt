@@ -15,18 +15,17 @@ use Rattle.arrays.specs.Whole.{copied}
 use Rattle.arrays.proofs.Below.{copied-whole}
 use Rattle.kinds.specs.Told.{told}
 use Rattle.int_slots.specs.Memory.{memory}
-use Rattle.int_slots.specs.Seeking.{fittingMap}
 use Rattle.int_slots.proofs.MapSizes.{fit, unfit, same-long}
-use Rattle.kinds.specs.Calls.{copyOf}
+use Rattle.kinds.specs.Calls.{sizedOf, copyOf}
 use Rattle.int_slots.specs.Maps.{maps}
 
 -- copy onto the first three arrays from the others
-module _ (marks keys vs ms ks ws : List ℕ) {b : Bool} (p : b ≡ fittingMap marks keys vs) where
+module _ (marks keys vs ms ks ws : List ℕ) {b : Bool} (p : b ≡ sizedOf maps (memory marks keys vs)) where
   pub copy-unfit : b ≡ false → told (outcomeNumbers (outcome.Refused Sizes)) (memory marks keys vs) ≡ copyOf maps (memory marks keys vs) (memory ms ks ws)
   unfolding copyOf copy after-copy acted need doneSaid outcomeNumbers
   copy-unfit q = rw (unfit marks keys vs p q)
 
-  module _ (q : b ≡ true) {d : Bool} (r : d ≡ fittingMap ms ks ws) where
+  module _ (q : b ≡ true) {d : Bool} (r : d ≡ sizedOf maps (memory ms ks ws)) where
     pub copy-from-unfit : d ≡ false → told (outcomeNumbers (outcome.Refused Sizes)) (memory marks keys vs) ≡ copyOf maps (memory marks keys vs) (memory ms ks ws)
     unfolding copyOf copy after-copy acted need doneSaid outcomeNumbers
     copy-from-unfit s = rw (fit marks keys vs p q, unfit ms ks ws r s)

@@ -34,7 +34,7 @@ pub enum Entered {
 pub fn entry(marks: &[u8], keys: &[u64], values: &[u64], key: u64) -> Entered
     ensures { λ r. ⌜ enteredNumbers r ≡ entryOf maps (before marks keys values) key ⌝ }
 {
-    let seen = int_slots::seek(marks, keys, values, key);
+    let seen = int_slots::map_probe(marks, keys, values, key);
     match seen {
         Probed::Hit(slot, examined) => Entered::Occupied(Occupied { slot }, values[slot], examined),
         Probed::Free(slot, examined) => Entered::Vacant(Vacant { slot }, examined),

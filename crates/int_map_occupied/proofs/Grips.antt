@@ -15,7 +15,6 @@ use Rattle.answers.specs.declared.Numbers.{Numbers}
 use Rattle.answers.specs.Refusals.{numberOf}
 use Rattle.kinds.specs.Marks.{cell}
 use Rattle.int_slots.specs.Memory.{memory}
-use Rattle.int_slots.specs.Seeking.{fittingMap}
 use Rattle.int_slots.proofs.MapSizes.{same-long}
 use Rattle.int_map_occupied.specs.declared.Occupied.{Occupied}
 use Rattle.int_map_occupied.specs.declared.Held.{Held}
@@ -29,8 +28,8 @@ use Rattle.kinds.specs.Told.{told}
 use Rattle.kinds.proofs.Told.{said, left, retold}
 use Rattle.answers.specs.Said.{heldSaid, swappedSaid, takenSaid, takenEntrySaid}
 use Rattle.int_map_occupied.specs.Numbers.{heldNumbers, swappedNumbers, takenNumbers, takenEntryNumbers}
-use Rattle.int_map_occupied.specs.Calls.{removeEntryOf}
-use Rattle.kinds.specs.Calls.{heldOf, setOf, takenOf}
+use Rattle.int_slots.specs.Kinds.{removeEntryOf}
+use Rattle.kinds.specs.Calls.{sizedOf, heldOf, setOf, takenOf}
 
 -- a mark of 0 or 2 is no good handle's
 pub idle : (mark a v k : ℕ) → mark ≤ 2 → (mark ≡ 1 → ⊥) → gripOn maps k (cell mark a v) ≡ no 6
@@ -64,22 +63,22 @@ taken-no (ok w) p q = other-case (rw q at p) refl
 module _ (marks keys vs : List ℕ) where
   module _ (s k : ℕ) where
     -- the handle's test, one test after the other
-    module _ {b : Bool} (p : b ≡ fittingMap marks keys vs) where
+    module _ {b : Bool} (p : b ≡ sizedOf maps (memory marks keys vs)) where
       pub grip-held : {n : Numbers} → b ≡ true → s < length marks → n ≡ heldSaid s (gripOn maps k (cell (getD marks s 0) (getD keys s 0) (getD vs s 0))) → n ≡ heldOf maps (memory marks keys vs) s k
-      unfolding heldOf occupied-get grip need pass fittingMap
+      unfolding heldOf occupied-get grip need pass sizedOf
       grip-held q l h = rw (sym p ∙ q, lt-ltb s (length marks) l) h
 
       pub grip-beyond : b ≡ true → length marks ≤ s → heldNumbers (held.Refused BadHandle) ≡ heldOf maps (memory marks keys vs) s k
-      unfolding heldOf occupied-get grip need pass fittingMap heldNumbers heldSaid
+      unfolding heldOf occupied-get grip need pass sizedOf heldNumbers heldSaid
       grip-beyond q l = rw (sym p ∙ q, le-ltb s (length marks) l)
 
       pub grip-unfit : b ≡ false → heldNumbers (held.Refused Sizes) ≡ heldOf maps (memory marks keys vs) s k
-      unfolding heldOf occupied-get need fittingMap heldNumbers heldSaid
+      unfolding heldOf occupied-get need sizedOf heldNumbers heldSaid
       grip-unfit q = rw (sym p ∙ q)
 
     -- a good handle's slot is one of the table's
     good-slot : {v : ℕ} → occupied-get maps (memory marks keys vs) s k ≡ ok v → (s < length marks) × (length keys ≡ length marks) × (length vs ≡ length marks)
-    unfolding occupied-get grip need pass fittingMap
+    unfolding occupied-get grip need pass sizedOf
     good-slot e =
         by-bool (maps .sized (memory marks keys vs))
         (λ f. by-lt s (length marks)

@@ -6,7 +6,7 @@ ghost use Rattle.int_slots.specs.Maps.{maps, before, after};
 ghost use Rattle.kinds.specs.Told.{told};
 ghost use Rattle.answers.specs.Said.{heldSaid};
 ghost use Rattle.int_map_occupied.specs.Numbers.{heldNumbers, swappedNumbers, takenNumbers, takenEntryNumbers};
-ghost use Rattle.int_map_occupied.specs.Calls.{removeEntryOf};
+ghost use Rattle.int_slots.specs.Kinds.{removeEntryOf};
 ghost use Rattle.kinds.specs.Calls.{heldOf, setOf, takenOf};
 use answers::Numbers;
 use answers::Refusal;

@@ -22,14 +22,14 @@ use Rattle.kinds.proofs.Bridge.{seenOf}
 use Rattle.int_slots.specs.Memory.{memory}
 use Rattle.int_slots.specs.Maps.{maps}
 use Rattle.int_slots.specs.Scanning.{scanning}
-use Rattle.int_slots.specs.Seeking.{fittingMap, seekingMap}
+use Rattle.int_slots.specs.Seeking.{probingMap}
 use Rattle.int_slots.proofs.Bridge.{scan-live, scan-bad}
-use Rattle.int_slots.proofs.Seeking.{get-seeking}
+use Rattle.int_slots.proofs.Seeking.{get-probed}
 use Rattle.int_slots.proofs.MapSizes.{fit, unfit}
-use Rattle.kinds.specs.Calls.{capacityOf, lenOf, getOf, containsOf}
+use Rattle.kinds.specs.Calls.{sizedOf, capacityOf, lenOf, getOf, containsOf}
 
 module _ (marks keys vs : List ℕ) where
-  module _ {b : Bool} (p : b ≡ fittingMap marks keys vs) where
+  module _ {b : Bool} (p : b ≡ sizedOf maps (memory marks keys vs)) where
     -- capacity
     pub capacity-done : b ≡ true → countedNumbers (counted.Count (length marks)) ≡ capacityOf maps (memory marks keys vs)
     unfolding capacityOf capacity need countSaid countedNumbers
@@ -52,10 +52,10 @@ module _ (marks keys vs : List ℕ) where
     unfolding lenOf model.length need countSaid countedNumbers
     len-not q = rw (unfit marks keys vs p q)
 
-  module _ (k : ℕ) {r : Probed} (p : r ≡ seekingMap marks keys vs k) where
+  module _ (k : ℕ) {r : Probed} (p : r ≡ probingMap (memory marks keys vs) k) where
     get-is : get maps (memory marks keys vs) k ≡ seenOf (λ i. getD vs i 0) r
-    unfolding seekingMap
-    get-is = rw p (get-seeking values (memory marks keys vs) k)
+    unfolding probingMap
+    get-is = rw p (get-probed values (memory marks keys vs) k)
 
     -- get
     pub get-hit : {s e : ℕ} → r ≡ Hit s e → gotNumbers (got.Found (getD vs s 0) s e) ≡ getOf maps (memory marks keys vs) k

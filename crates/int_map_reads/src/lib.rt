@@ -72,7 +72,7 @@ pub fn reserve(marks: &[u8], keys: &[u64], values: &[u64], asked: u64) -> Reserv
 pub fn get(marks: &[u8], keys: &[u64], values: &[u64], key: u64) -> Got
     ensures { λ r. ⌜ gotNumbers r ≡ getOf maps (before marks keys values) key ⌝ }
 {
-    let seen = int_slots::seek(marks, keys, values, key);
+    let seen = int_slots::map_probe(marks, keys, values, key);
     match seen {
         Probed::Hit(slot, examined) => Got::Found(values[slot], slot, examined),
         Probed::Free(_, examined) => Got::Absent(examined),
@@ -85,7 +85,7 @@ pub fn get(marks: &[u8], keys: &[u64], values: &[u64], key: u64) -> Got
 pub fn contains_key(marks: &[u8], keys: &[u64], values: &[u64], key: u64) -> Contained
     ensures { λ r. ⌜ containedNumbers r ≡ containsOf maps (before marks keys values) key ⌝ }
 {
-    let seen = int_slots::seek(marks, keys, values, key);
+    let seen = int_slots::map_probe(marks, keys, values, key);
     match seen {
         Probed::Hit(_, examined) => Contained::Present(examined),
         Probed::Free(_, examined) => Contained::Absent(examined),

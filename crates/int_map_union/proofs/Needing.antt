@@ -18,12 +18,13 @@ use Rattle.kinds.specs.declared.Probed.{Probed}
 use Rattle.kinds.specs.declared.Probed.the-variants as probed
 use Rattle.kinds.specs.Columns.{values}
 use Rattle.kinds.specs.Marks.{cell}
+use Rattle.kinds.specs.Calls.{sizedOf}
 use Rattle.int_slots.specs.Memory.{Cells, memory}
 use Rattle.kinds.specs.Probing.{along}
-use Rattle.int_slots.specs.Seeking.{fittingMap, seekingMap}
+use Rattle.int_slots.specs.Seeking.{probingMap}
 use Rattle.int_slots.specs.Maps.{maps}
 use Rattle.int_map_union.specs.Calls.{lackOf, lacksOf}
-use Rattle.int_slots.proofs.Seeking.{path-sought}
+use Rattle.int_slots.proofs.Seeking.{path-probed}
 
 -- Whether a probing that ended so found no key.
 abbrev missedOf : Probed → Bool
@@ -47,10 +48,10 @@ lack-idle l (suc (suc zero)) key h = refl
 lack-idle l (suc (suc (suc n))) key h = refl
 
 -- a live one by what the probing of its key found in the left
-module _ (marks keys vs : List ℕ) (mark k : ℕ) {r : Probed} (f : fittingMap marks keys vs ≡ true) (one : mark ≡ 1) (p : r ≡ seekingMap marks keys vs k) where
+module _ (marks keys vs : List ℕ) (mark k : ℕ) {r : Probed} (f : sizedOf maps (memory marks keys vs) ≡ true) (one : mark ≡ 1) (p : r ≡ probingMap (memory marks keys vs) k) where
   lack-live : lackOf (memory marks keys vs) mark k ≡ cond (missedOf r) 1 0
-  unfolding lackOf cell weigh lacking fittingMap seekingMap
-  lack-live = rw (one, missed-along (length marks) (homeOfWord 0 (length marks) k) (path maps (memory marks keys vs) k), ← path-sought values (memory marks keys vs) k f, p)
+  unfolding lackOf cell weigh lacking sizedOf probingMap
+  lack-live = rw (one, missed-along (length marks) (homeOfWord 0 (length marks) k) (path maps (memory marks keys vs) k), ← path-probed values (memory marks keys vs) k f, p)
 
   pub lack-hit : {s e : ℕ} → r ≡ probed.Hit s e → 0 ≡ lackOf (memory marks keys vs) mark k
   lack-hit q = rw (lack-live, q)

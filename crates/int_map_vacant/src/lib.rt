@@ -3,7 +3,7 @@ ghost use mathlib.Core.Path.{_≡_};
 ghost use Rattle.answers.specs.Numbers.{outcomeNumbers};
 ghost use Rattle.kinds.specs.Told.{told};
 ghost use Rattle.int_map_vacant.specs.Numbers.{standingNumbers};
-ghost use Rattle.int_map_vacant.specs.Calls.{freshOf};
+ghost use Rattle.int_slots.specs.Kinds.{vacancyOf};
 ghost use Rattle.kinds.specs.Calls.{standingOf};
 ghost use Rattle.int_slots.specs.Maps.{maps, before, after};
 use answers::Numbers;
@@ -27,9 +27,9 @@ pub enum Standing {
 
 // Whether a vacant handle of this slot is good for the key: insert would use that very slot.
 fn fresh_at(marks: &[u8], keys: &[u64], values: &[u64], slot: usize, key: u64) -> Outcome
-    ensures { λ r. ⌜ outcomeNumbers r ≡ freshOf (before marks keys values) slot key ⌝ }
+    ensures { λ r. ⌜ outcomeNumbers r ≡ vacancyOf (before marks keys values) slot key ⌝ }
 {
-    let seen = int_slots::seek(marks, keys, values, key);
+    let seen = int_slots::map_probe(marks, keys, values, key);
     match seen {
         Probed::Free(free, _) => {
             if slot == free {

@@ -15,9 +15,10 @@ use Rattle.answers.specs.Said.{pairHanded, stepSaid}
 use Rattle.kinds.specs.declared.Next.{Next}
 use Rattle.kinds.specs.declared.Next.the-variants as next
 use Rattle.kinds.specs.Columns.{values}
+use Rattle.kinds.specs.Calls.{sizedOf}
 use Rattle.int_slots.specs.Memory.{memory}
+use Rattle.int_slots.specs.Maps.{maps}
 use Rattle.int_slots.specs.Scanning.{nexting}
-use Rattle.int_slots.specs.Seeking.{fittingMap}
 use Rattle.int_slots.proofs.Bridge.{paced-by}
 use Rattle.int_slots.proofs.MapSizes.{fit, unfit, same-long}
 use Rattle.int_map_walk.specs.declared.Paced.the-variants.{Pair, Nothing, Done}
@@ -41,7 +42,7 @@ module _ (marks keys vs : List ℕ) (at : ℕ) where
     pace-none q = rw (paced-by values (memory marks keys vs) at g p q)
 
   -- the tests of a step, in order
-  module _ (budget : ℕ) {b : Bool} (p : b ≡ fittingMap marks keys vs) where
+  module _ (budget : ℕ) {b : Bool} (p : b ≡ sizedOf maps (memory marks keys vs)) where
     pub step-unfit : b ≡ false → (s : Stride) → stepNumbers s ≡ stepSaid pairHanded at (no 1) → stepNumbers s ≡ stepOf (memory marks keys vs) at budget
     unfolding stepOf stepping need
     step-unfit q s e = e ∙ (rw (unfit marks keys vs p q))

@@ -20,7 +20,7 @@ use Rattle.int_slots.proofs.Bridge.{remove-probing, entry-probing, hit-slot, fr
 use Rattle.int_slots.specs.Sets.{sets, memory}
 use Rattle.int_slots.proofs.SetSizes.{fit, unfit}
 use Rattle.kinds.specs.Told.{told}
-use Rattle.int_set.specs.Calls.{insertOf}
+use Rattle.int_slots.specs.Kinds.{setInsertOf}
 use Rattle.kinds.specs.Calls.{makeOf, droppedOf}
 
 module _ (marks keys : List ℕ) where
@@ -44,8 +44,8 @@ module _ (marks keys : List ℕ) where
     free-inside q = let (a, b) = free-slot marks keys k p q in (a, omega arith)
 
     module _ {x : Probed} (q : r ≡ x) where
-      pub insert-says : told (addedSaid (spotOf {W = Unit {0}} (λ i. tt) x)) (storedBy sets (memory marks keys) k tt (spotOf (λ i. tt) x)) ≡ insertOf (memory marks keys) k
-      unfolding insertOf after-insert
+      pub insert-says : told (addedSaid (spotOf {W = Unit {0}} (λ i. tt) x)) (storedBy sets (memory marks keys) k tt (spotOf (λ i. tt) x)) ≡ setInsertOf (memory marks keys) k
+      unfolding setInsertOf after-insert
       insert-says = rw (entry-probing nothing (memory marks keys) k p q refl)
 
       pub remove-says : told (droppedSaid (seenOf {W = Unit {0}} (λ i. tt) x)) (removedBy sets (memory marks keys) (seenOf (λ i. tt) x)) ≡ droppedOf sets (memory marks keys) k

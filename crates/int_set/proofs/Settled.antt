@@ -6,7 +6,7 @@ use Rattle.kinds.specs.Columns.{nothing}
 use Rattle.kinds.specs.Told.{SettledWith}
 use Rattle.kinds.proofs.Settled.{settled-with}
 use Rattle.int_slots.specs.Memory.{Cells}
-use Rattle.int_set.specs.Calls.{insertOf}
+use Rattle.int_slots.specs.Kinds.{setInsertOf}
 use Rattle.kinds.specs.Calls.{makeOf, droppedOf}
 use Rattle.int_slots.specs.Sets.{sets}
 
@@ -20,7 +20,7 @@ module _ (m : Cells nothing) where
   clear-settled = settled-with outcomeNumbers-injective
 
   -- `insert`.
-  pub insert-settled : (k : ℕ) → SettledWith addedNumbers (insertOf m k)
+  pub insert-settled : (k : ℕ) → SettledWith addedNumbers (setInsertOf m k)
   insert-settled k = settled-with addedNumbers-injective
 
   -- `remove`.

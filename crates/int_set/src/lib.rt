@@ -3,7 +3,7 @@ ghost use mathlib.Core.Path.{_≡_};
 ghost use Rattle.answers.specs.Numbers.{outcomeNumbers, addedNumbers, droppedNumbers};
 ghost use Rattle.int_slots.specs.Sets.{sets, before, after};
 ghost use Rattle.kinds.specs.Told.{told};
-ghost use Rattle.int_set.specs.Calls.{insertOf};
+ghost use Rattle.int_slots.specs.Kinds.{setInsertOf};
 ghost use Rattle.kinds.specs.Calls.{makeOf, droppedOf};
 use answers::Added;
 use answers::Dropped;
@@ -34,7 +34,7 @@ pub fn clear(marks: &mut [u8], keys: &mut [u64]) -> Outcome
 
 // Puts a key in: the first free slot of its path takes it; one that is there already stores nothing.
 pub fn insert(marks: &mut [u8], keys: &mut [u64], key: u64) -> Added
-    ensures { λ r. ⌜ told (addedNumbers r) (after marks keys) ≡ insertOf (before marks keys) key ⌝ }
+    ensures { λ r. ⌜ told (addedNumbers r) (after marks keys) ≡ setInsertOf (before marks keys) key ⌝ }
 {
     let seen = int_slots::probe(marks, keys, key);
     match seen {

@@ -21,7 +21,7 @@ use Rattle.int_slots.specs.Scanning.{scanning}
 use Rattle.int_slots.proofs.Bridge.{get-probing, scan-live, scan-bad}
 use Rattle.int_slots.specs.Sets.{sets, memory}
 use Rattle.int_slots.proofs.SetSizes.{fit, unfit}
-use Rattle.int_set_reads.specs.Calls.{getOf}
+use Rattle.int_slots.specs.Kinds.{setGetOf}
 use Rattle.kinds.specs.Calls.{capacityOf, lenOf, containsOf}
 
 module _ (marks keys : List ℕ) where
@@ -50,8 +50,8 @@ module _ (marks keys : List ℕ) where
 
   -- the path calls, by what the probing found
   module _ (k : ℕ) {r : Probed} (p : r ≡ probing marks keys k) {x : Probed} (q : r ≡ x) where
-    pub get-says : memberSaid k (seenOf {W = Unit {0}} (λ i. tt) x) ≡ getOf (memory marks keys) k
-    unfolding getOf
+    pub get-says : memberSaid k (seenOf {W = Unit {0}} (λ i. tt) x) ≡ setGetOf (memory marks keys) k
+    unfolding setGetOf
     get-says = rw (get-probing nothing (memory marks keys) k p q refl)
 
     pub contains-says : containedSaid (seenOf {W = Unit {0}} (λ i. tt) x) ≡ containsOf sets (memory marks keys) k

@@ -2,7 +2,7 @@
 ghost use mathlib.Core.Path.{_≡_};
 ghost use lib.ListN.{length};
 ghost use Rattle.kinds.specs.Told.{told};
-ghost use Rattle.int_map_occupied.specs.Calls.{removeEntryOf};
+ghost use Rattle.int_slots.specs.Kinds.{removeEntryOf};
 ghost use Rattle.kinds.specs.Calls.{heldOf, setOf, takenOf, standingOf, entryOf, orInsertOf, insertEntryOf};
 ghost use Rattle.int_slots.specs.Maps.{maps, before, after};
 ghost use Rattle.kinds.specs.Handing.{handleAs};

@@ -2,7 +2,7 @@
 ghost use mathlib.Core.Path.{_≡_};
 ghost use Rattle.kinds.specs.Told.{told};
 ghost use Rattle.kinds.specs.Moved.{movedOn};
-ghost use Rattle.int_map.specs.Calls.{insertOf};
+ghost use Rattle.int_slots.specs.Kinds.{insertOf};
 ghost use Rattle.kinds.specs.Calls.{makeOf, removeOf, capacityOf, lenOf, isEmptyOf, reserveOf, getOf, containsOf, copyOf, unionOf};
 ghost use Rattle.int_slots.specs.Maps.{maps, before, after};
 ghost use Rattle.int_map_walk.specs.Calls.{stepOf};

@@ -5,19 +5,19 @@ use Rattle.int_map_vacant.proofs.fresh_at.Statement.{statement}
 use Rattle.int_map_vacant.proofs.fresh_at.Tie as tie
 
 returns : tie.Need-returns
-returns c = fresh-free _ _ _ _ (c .before .before .before .before .seek .ensures) _ (c .before .before .seen .given .1) (c .if1 .taken)
+returns c = fresh-free _ _ _ _ (c .before .before .before .before .map-probe .ensures) _ (c .before .before .seen .given .1) (c .if1 .taken)
 
 returns-2 : tie.Need-returns-2
-returns-2 c = fresh-other _ _ _ _ (c .before .before .before .before .seek .ensures) _ (c .before .before .seen .given .1) (c .if1 .left)
+returns-2 c = fresh-other _ _ _ _ (c .before .before .before .before .map-probe .ensures) _ (c .before .before .seen .given .1) (c .if1 .left)
 
 returns-3 : tie.Need-returns-3
-returns-3 c = fresh-hit _ _ _ _ (c .before .before .seek .ensures) _ (c .enum-told .given .1)
+returns-3 c = fresh-hit _ _ _ _ (c .before .before .map-probe .ensures) _ (c .enum-told .given .1)
 
 returns-4 : tie.Need-returns-4
-returns-4 c = fresh-full _ _ _ _ (c .before .before .seek .ensures) _ (c .enum-told2 .given .1)
+returns-4 c = fresh-full _ _ _ _ (c .before .before .map-probe .ensures) _ (c .enum-told2 .given .1)
 
 returns-5 : tie.Need-returns-5
-returns-5 c = fresh-refused _ _ _ _ (c .before .before .before .seek .ensures) _ (c .before .seen2 .given .1)
+returns-5 c = fresh-refused _ _ _ _ (c .before .before .before .map-probe .ensures) _ (c .before .seen2 .given .1)
 
 pub fresh-at-spec : {M : Type 1} → statement M
 fresh-at-spec =
