@@ -1,3 +1,2 @@
 -- The laws of integer maps.
-pub mod Laws
 pub mod Settled

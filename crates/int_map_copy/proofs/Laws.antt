@@ -15,7 +15,8 @@ use Rattle.arrays.specs.Whole.{copied}
 use Rattle.arrays.proofs.Below.{copied-whole}
 use Rattle.kinds.specs.Told.{told}
 use Rattle.int_slots.specs.Memory.{memory}
-use Rattle.int_slots.proofs.MapSizes.{fit, unfit, same-long}
+use Rattle.int_slots.proofs.MapSizes.{same-long}
+use Rattle.kinds.proofs.Sizing.{sized-as}
 use Rattle.kinds.specs.Calls.{sizedOf, copyOf}
 use Rattle.int_slots.specs.Maps.{maps}
 
@@ -23,20 +24,20 @@ use Rattle.int_slots.specs.Maps.{maps}
 module _ (marks keys vs ms ks ws : List ℕ) {b : Bool} (p : b ≡ sizedOf maps (memory marks keys vs)) where
   pub copy-unfit : b ≡ false → told (outcomeNumbers (outcome.Refused Sizes)) (memory marks keys vs) ≡ copyOf maps (memory marks keys vs) (memory ms ks ws)
   unfolding copyOf copy after-copy acted need doneSaid outcomeNumbers
-  copy-unfit q = rw (unfit marks keys vs p q)
+  copy-unfit q = rw (sized-as maps (memory marks keys vs) p q)
 
   module _ (q : b ≡ true) {d : Bool} (r : d ≡ sizedOf maps (memory ms ks ws)) where
     pub copy-from-unfit : d ≡ false → told (outcomeNumbers (outcome.Refused Sizes)) (memory marks keys vs) ≡ copyOf maps (memory marks keys vs) (memory ms ks ws)
     unfolding copyOf copy after-copy acted need doneSaid outcomeNumbers
-    copy-from-unfit s = rw (fit marks keys vs p q, unfit ms ks ws r s)
+    copy-from-unfit s = rw (sized-as maps (memory marks keys vs) p q, sized-as maps (memory ms ks ws) r s)
 
     pub copy-unequal : d ≡ true → (length marks ≡ length ms → ⊥) → told (outcomeNumbers (outcome.Refused Sizes)) (memory marks keys vs) ≡ copyOf maps (memory marks keys vs) (memory ms ks ws)
     unfolding copyOf copy after-copy acted need doneSaid outcomeNumbers
-    copy-unequal s h = rw (fit marks keys vs p q, fit ms ks ws r s, ne-eqb (length marks) (length ms) h)
+    copy-unequal s h = rw (sized-as maps (memory marks keys vs) p q, sized-as maps (memory ms ks ws) r s, ne-eqb (length marks) (length ms) h)
 
     pub copy-done : d ≡ true → length marks ≡ length ms → {x y z : List ℕ} → x ≡ copied marks ms → y ≡ copied keys ks → z ≡ copied vs ws → told (outcomeNumbers outcome.Done) (memory x y z) ≡ copyOf maps (memory marks keys vs) (memory ms ks ws)
     unfolding copyOf copy after-copy acted need doneSaid outcomeNumbers
     copy-done s e f g h =
-        let (i, j) = same-long marks keys vs p q in
-        let (k, l) = same-long ms ks ws r s in
-        rw (fit marks keys vs p q, fit ms ks ws r s, eq-eqb (length marks) (length ms) e, copied-whole marks ms e f, copied-whole keys ks (omega arith) g, copied-whole vs ws (omega arith) h)
+        let (i, j) = same-long (memory marks keys vs) p q in
+        let (k, l) = same-long (memory ms ks ws) r s in
+        rw (sized-as maps (memory marks keys vs) p q, sized-as maps (memory ms ks ws) r s, eq-eqb (length marks) (length ms) e, copied-whole marks ms e f, copied-whole keys ks (omega arith) g, copied-whole vs ws (omega arith) h)

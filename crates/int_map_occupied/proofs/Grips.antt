@@ -82,7 +82,7 @@ module _ (marks keys vs : List ℕ) where
     good-slot e =
         by-bool (maps .sized (memory marks keys vs))
         (λ f. by-lt s (length marks)
-        (λ l t. let (a, b) = same-long marks keys vs (sym f) refl in (l, a, b))
+        (λ l t. let (a, b) = same-long (memory marks keys vs) (sym f) refl in (l, a, b))
         (λ l t. clash (cc (rw (f, t) at e))))
         (λ f. clash (cc (rw f at e)))
 

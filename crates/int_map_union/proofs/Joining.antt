@@ -103,7 +103,7 @@ module _ (l r : Cells values) {a : Outcome} (p : outcomeNumbers a ≡ planOf l r
       go : {u : Unit {0}} → union maps l r ≡ ok u → (sizedOf maps l ≡ true) × (length (r .keys) ≡ length (r .marks)) × (length (r .words) ≡ length (r .marks))
       go e = by-bool (maps .sized l)
           (λ f. by-bool (maps .sized r)
-          (λ g. let (x, y) = same-long (r .marks) (r .keys) (r .words) (sym g) refl in (f, x, y))
+          (λ g. let (x, y) = same-long r (sym g) refl in (f, x, y))
           (λ g. clash (cc (rw (f, g) at e))))
           (λ f. clash (cc (rw f at e)))
 

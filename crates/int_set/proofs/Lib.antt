@@ -1,3 +1,2 @@
 -- The laws of integer sets.
-pub mod Laws
 pub mod Settled

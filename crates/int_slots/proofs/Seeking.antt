@@ -1,6 +1,6 @@
 -- What the probing of a key says of get, remove and entry, on any memory: the laws that every call of a map or a set cites.
 use Prim.Native.Nat.{ℕ, _<_}
-use mathlib.Core.Bool.{Bool, true, false}
+use mathlib.Core.Bool.{true, false}
 use mathlib.Core.Path.{_≡_, refl, sym, _∙_}
 use native.Mathlib.Omega.{arith}
 use borrow.Author.Tests.{eq-eqb, ne-eqb, eqb-true}
@@ -9,15 +9,13 @@ use Rattle.model.specs.Store.{Store, path}
 use Rattle.answers.specs.declared.Refusal.the-variants.{Sizes}
 use Rattle.model.specs.Calls.{no, need, get, entry, remove}
 use Rattle.model.proofs.Cases.{both, by-bool, clash}
-use Rattle.digest.specs.Home.{homeOfWord, slotsFit}
+use Rattle.digest.specs.Home.{homeOfWord}
 use Rattle.kinds.specs.declared.Probed.{Probed}
 use Rattle.kinds.specs.declared.Probed.the-variants.{Hit, Free, Refused}
 use Rattle.kinds.specs.Columns.{Column, values}
 use Rattle.kinds.specs.Probing.{along}
 use Rattle.int_slots.specs.Memory.{Cells, cells, fitting}
 use Rattle.int_slots.specs.Probing.{probing}
-use Rattle.int_slots.specs.Maps.{maps}
-use Rattle.kinds.specs.Calls.{sizedOf}
 use Rattle.int_slots.specs.Seeking.{probingBeside, probingMap}
 use Rattle.kinds.proofs.Bridge.{seenOf, spotOf}
 use Rattle.int_slots.proofs.Bridge.{sized-is, sized-short, probing-path, get-probing, remove-probing, entry-probing, hit-slot, free-slot}
@@ -71,35 +69,22 @@ module _ {W : Type 0} (C : Column W) (m : Cells C) (k : ℕ) where
         let (x, l) = probed (λ z. clash cc) in
         let (a, b) = free-slot (m .marks) (m .keys) k x q in (a, b, l)
 
--- a map's sizes and the probing in it, from its own tests
-module _ (m : Cells values) where
-  pub map-fits-all : {b : Bool} → length (m .marks) ≡ length (m .words) → length (m .marks) ≡ length (m .keys) → b ≡ slotsFit (length (m .marks)) → b ≡ sizedOf maps m
-  unfolding sizedOf
-  map-fits-all e f p = rw (p, eq-eqb (length (m .marks)) (length (m .words)) e, eq-eqb (length (m .marks)) (length (m .keys)) f) (by-bool (slotsFit (length (m .marks))) (λ q. rw q) (λ q. rw q))
+-- the probing in a map, from its own tests
+module _ (m : Cells values) (k : ℕ) where
+  pub map-probe-long : {r : Probed} → length (m .marks) ≡ length (m .words) → r ≡ probing (m .marks) (m .keys) k → r ≡ probingMap m k
+  unfolding probingMap probingBeside
+  map-probe-long e p = rw (eq-eqb (length (m .marks)) (length (m .words)) e) p
 
-  pub map-fits-keys : (length (m .marks) ≡ length (m .keys) → ⊥) → false ≡ sizedOf maps m
-  unfolding sizedOf
-  map-fits-keys h = rw (ne-eqb (length (m .marks)) (length (m .keys)) h) (by-bool (slotsFit (length (m .marks))) (λ q. rw q) (λ q. rw q))
+  pub map-probe-short : (length (m .marks) ≡ length (m .words) → ⊥) → Refused Sizes ≡ probingMap m k
+  unfolding probingMap probingBeside
+  map-probe-short h = rw (ne-eqb (length (m .marks)) (length (m .words)) h)
 
-  pub map-fits-values : (length (m .marks) ≡ length (m .words) → ⊥) → false ≡ sizedOf maps m
-  unfolding sizedOf
-  map-fits-values h = sym (sized-short values m (ne-eqb (length (m .marks)) (length (m .words)) h))
+  -- a slot that the probing answers is inside all three arrays
+  module _ {r : Probed} (p : r ≡ probingMap m k) where
+    pub hit-inside : {s e : ℕ} → r ≡ Hit s e → (s < length (m .marks)) × (s < length (m .keys)) × (s < length (m .words))
+    unfolding probingMap
+    hit-inside q = let (a, b, l) = hit-probed values m k p q in (a, omega arith, omega (arith, eqb-true (length (m .marks)) (length (m .words)) l))
 
-  module _ (k : ℕ) where
-    pub map-probe-long : {r : Probed} → length (m .marks) ≡ length (m .words) → r ≡ probing (m .marks) (m .keys) k → r ≡ probingMap m k
-    unfolding probingMap probingBeside
-    map-probe-long e p = rw (eq-eqb (length (m .marks)) (length (m .words)) e) p
-
-    pub map-probe-short : (length (m .marks) ≡ length (m .words) → ⊥) → Refused Sizes ≡ probingMap m k
-    unfolding probingMap probingBeside
-    map-probe-short h = rw (ne-eqb (length (m .marks)) (length (m .words)) h)
-
-    -- a slot that the probing answers is inside all three arrays
-    module _ {r : Probed} (p : r ≡ probingMap m k) where
-      pub hit-inside : {s e : ℕ} → r ≡ Hit s e → (s < length (m .marks)) × (s < length (m .keys)) × (s < length (m .words))
-      unfolding probingMap
-      hit-inside q = let (a, b, l) = hit-probed values m k p q in (a, omega arith, omega (arith, eqb-true (length (m .marks)) (length (m .words)) l))
-
-      pub free-inside : {s e : ℕ} → r ≡ Free s e → (s < length (m .marks)) × (s < length (m .keys)) × (s < length (m .words))
-      unfolding probingMap
-      free-inside q = let (a, b, l) = free-probed values m k p q in (a, omega arith, omega (arith, eqb-true (length (m .marks)) (length (m .words)) l))
+    pub free-inside : {s e : ℕ} → r ≡ Free s e → (s < length (m .marks)) × (s < length (m .keys)) × (s < length (m .words))
+    unfolding probingMap
+    free-inside q = let (a, b, l) = free-probed values m k p q in (a, omega arith, omega (arith, eqb-true (length (m .marks)) (length (m .words)) l))

@@ -1,4 +1,5 @@
 -- The laws that all kinds of tables share.
+pub mod Alike
 pub mod Beside
 pub mod Bridge
 pub mod Columns

@@ -1,8 +1,11 @@
 -- `int_map::insert` meets its contract: the value changes in the key's slot, or the first free slot takes the key.
 use borrow.Author.Needs.{needs}
 use native.Mathlib.Omega.{arith}
+use Rattle.model.specs.Calls.{storedBy}
+use Rattle.answers.specs.Numbers.{insertedNumbers}
+use Rattle.answers.specs.Said.{insertedSaid}
 use Rattle.int_slots.proofs.Seeking.{hit-inside, free-inside}
-use Rattle.int_map.proofs.Laws.{insert-hit, insert-free, insert-full, insert-refused}
+use Rattle.int_slots.proofs.Calls.{insert-says}
 use Rattle.int_map.proofs.insert.Statement.{statement}
 use Rattle.int_map.proofs.insert.Tie as tie
 
@@ -34,16 +37,20 @@ slice-write-values-2 : tie.Need-slice-write-values-2
 slice-write-values-2 c = free-inside _ _ (c .before .before .before .map-probe .ensures) (c .before .seen2 .given .1) .2
 
 returns : tie.Need-returns
-returns c = insert-hit _ _ _ _ (c .before .before .before .before .map-probe .ensures) _ (c .before .before .seen .given .1)
+unfolding insertedNumbers insertedSaid storedBy
+returns c = insert-says _ _ (c .before .before .before .before .map-probe .ensures) (c .before .before .seen .given .1) _
 
 returns-2 : tie.Need-returns-2
-returns-2 c = insert-free _ _ _ _ (c .before .before .before .map-probe .ensures) _ (c .before .seen2 .given .1)
+unfolding insertedNumbers insertedSaid storedBy
+returns-2 c = insert-says _ _ (c .before .before .before .map-probe .ensures) (c .before .seen2 .given .1) _
 
 returns-3 : tie.Need-returns-3
-returns-3 c = insert-full _ _ _ _ (c .before .before .map-probe .ensures) _ (c .enum-told .given .1)
+unfolding insertedNumbers insertedSaid storedBy
+returns-3 c = insert-says _ _ (c .before .before .map-probe .ensures) (c .enum-told .given .1) _
 
 returns-4 : tie.Need-returns-4
-returns-4 c = insert-refused _ _ _ _ (c .before .before .before .map-probe .ensures) _ (c .before .seen3 .given .1)
+unfolding insertedNumbers insertedSaid storedBy
+returns-4 c = insert-says _ _ (c .before .before .before .map-probe .ensures) (c .before .seen3 .given .1) _
 
 pub insert-spec : {M : Type 1} → statement M
 insert-spec =

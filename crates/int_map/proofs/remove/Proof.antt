@@ -1,8 +1,11 @@
 -- `int_map::remove` meets its contract: the found slot is freed, its words become 0.
 use borrow.Author.Needs.{needs}
 use native.Mathlib.Omega.{arith}
+use Rattle.model.specs.Calls.{removedBy}
+use Rattle.answers.specs.Numbers.{removedNumbers}
+use Rattle.answers.specs.Said.{removedSaid}
 use Rattle.int_slots.proofs.Seeking.{hit-inside}
-use Rattle.int_map.proofs.Laws.{remove-hit, remove-free, remove-full, remove-refused}
+use Rattle.int_slots.proofs.Calls.{remove-says}
 use Rattle.int_map.proofs.remove.Statement.{statement}
 use Rattle.int_map.proofs.remove.Tie as tie
 
@@ -28,16 +31,20 @@ slice-write-values : tie.Need-slice-write-values
 slice-write-values c = hit-inside _ _ (c .before .before .before .before .map-probe .ensures) (c .before .before .seen .given .1) .2
 
 returns : tie.Need-returns
-returns c = remove-hit _ _ _ _ (c .before .before .before .before .map-probe .ensures) (c .before .before .seen .given .1)
+unfolding removedNumbers removedSaid removedBy
+returns c = remove-says _ _ (c .before .before .before .before .map-probe .ensures) (c .before .before .seen .given .1)
 
 returns-2 : tie.Need-returns-2
-returns-2 c = remove-free _ _ _ _ (c .before .before .before .map-probe .ensures) (c .before .seen2 .given .1)
+unfolding removedNumbers removedSaid removedBy
+returns-2 c = remove-says _ _ (c .before .before .before .map-probe .ensures) (c .before .seen2 .given .1)
 
 returns-3 : tie.Need-returns-3
-returns-3 c = remove-full _ _ _ _ (c .before .before .before .map-probe .ensures) (c .before .seen3 .given .1)
+unfolding removedNumbers removedSaid removedBy
+returns-3 c = remove-says _ _ (c .before .before .before .map-probe .ensures) (c .before .seen3 .given .1)
 
 returns-4 : tie.Need-returns-4
-returns-4 c = remove-refused _ _ _ _ (c .before .before .before .map-probe .ensures) (c .before .seen4 .given .1)
+unfolding removedNumbers removedSaid removedBy
+returns-4 c = remove-says _ _ (c .before .before .before .map-probe .ensures) (c .before .seen4 .given .1)
 
 pub remove-spec : {M : Type 1} → statement M
 remove-spec =

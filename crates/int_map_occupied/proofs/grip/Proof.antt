@@ -7,16 +7,16 @@ use Rattle.int_map_occupied.proofs.grip.Statement.{statement}
 use Rattle.int_map_occupied.proofs.grip.Tie as tie
 
 mul-held-in : tie.Need-mul-held-in
-mul-held-in c = let (a, b) = same-long _ _ _ (c .before .before .before .map-fits .ensures) (c .before .before .if1 .taken) in search needs
+mul-held-in c = let (a, b) = same-long _ (c .before .before .before .map-fits .ensures) (c .before .before .if1 .taken) in search needs
 
 shared-slice-read-held-in-2 : tie.Need-shared-slice-read-held-in-2
-shared-slice-read-held-in-2 c = let (a, b) = same-long _ _ _ (c .before .before .before .before .map-fits .ensures) (c .before .before .before .if1 .taken) in omega arith
+shared-slice-read-held-in-2 c = let (a, b) = same-long _ (c .before .before .before .before .map-fits .ensures) (c .before .before .before .if1 .taken) in omega arith
 
 mul-held-in-2 : tie.Need-mul-held-in-2
-mul-held-in-2 c = let (a, b) = same-long _ _ _ (c .before .before .before .before .map-fits .ensures) (c .before .before .before .if1 .taken) in search needs
+mul-held-in-2 c = let (a, b) = same-long _ (c .before .before .before .before .map-fits .ensures) (c .before .before .before .if1 .taken) in search needs
 
 shared-slice-read-held-in-3 : tie.Need-shared-slice-read-held-in-3
-shared-slice-read-held-in-3 c = let (a, b) = same-long _ _ _ (c .before .before .before .before .before .map-fits .ensures) (c .before .before .before .before .if1 .taken) in omega arith
+shared-slice-read-held-in-3 c = let (a, b) = same-long _ (c .before .before .before .before .before .map-fits .ensures) (c .before .before .before .before .if1 .taken) in omega arith
 
 returns : tie.Need-returns
 returns c = grip-held _ _ _ _ _ (c .before .before .before .before .before .before .map-fits .ensures) (c .before .before .before .before .before .if1 .taken) (c .before .before .before .before .if2 .taken) (c .held-in .ensures)

@@ -1,6 +1,6 @@
 -- `int_slots::map_fits` meets its contract: values and keys as many as marks, then the slot count.
 use borrow.Author.Needs.{needs}
-use Rattle.int_slots.proofs.Seeking.{map-fits-all, map-fits-keys, map-fits-values}
+use Rattle.int_slots.proofs.MapSizes.{map-fits-all, map-fits-keys, map-fits-values}
 use Rattle.int_slots.proofs.map_fits.Statement.{statement}
 use Rattle.int_slots.proofs.map_fits.Tie as tie
 
