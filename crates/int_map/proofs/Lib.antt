@@ -1,2 +1,3 @@
 -- The laws of integer maps.
+pub mod Laws
 pub mod Settled

@@ -1,2 +1,3 @@
 -- The laws of integer sets.
+pub mod Laws
 pub mod Settled

@@ -7,7 +7,7 @@ use Rattle.kinds.specs.Told.{SettledWith}
 use Rattle.kinds.proofs.Settled.{settled-with}
 use Rattle.int_slots.specs.Memory.{Cells}
 use Rattle.int_slots.specs.Kinds.{setInsertOf}
-use Rattle.kinds.specs.Calls.{makeOf, droppedOf}
+use Rattle.kinds.specs.Calls.{makeOf, droppedOf, copyOf}
 use Rattle.int_slots.specs.Sets.{sets}
 
 module _ (m : Cells nothing) where
@@ -26,3 +26,7 @@ module _ (m : Cells nothing) where
   -- `remove`.
   pub remove-settled : (k : ℕ) → SettledWith droppedNumbers (droppedOf sets m k)
   remove-settled k = settled-with droppedNumbers-injective
+
+  -- `copy`.
+  pub copy-settled : (from : Cells nothing) → SettledWith outcomeNumbers (copyOf sets m from)
+  copy-settled from = settled-with outcomeNumbers-injective

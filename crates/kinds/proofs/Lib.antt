@@ -3,6 +3,7 @@ pub mod Alike
 pub mod Beside
 pub mod Bridge
 pub mod Columns
+pub mod Copying
 pub mod Counts
 pub mod LentWalks
 pub mod Moved

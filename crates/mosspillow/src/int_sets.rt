@@ -1,4 +1,4 @@
-// The integer set for C: each call as int_set, int_set_reads, int_set_copy and int_set_walk have it, its answer as numbers.
+// The integer set for C: each call as int_set, int_set_reads and int_set_walk have it, its answer as numbers.
 ghost use mathlib.Core.Path.{_≡_};
 ghost use Rattle.kinds.specs.Told.{told};
 ghost use Rattle.kinds.specs.Moved.{movedOn};
@@ -108,7 +108,7 @@ pub extern "C" fn moss_int_set_copy(
 ) -> Numbers
     ensures { λ r. ⌜ told r (after «to_marks» «to_keys») ≡ copyOf sets (before «to_marks» «to_keys») (before marks keys) ⌝ }
 {
-    outcome_numbers(int_set_copy::copy(to_marks, to_keys, marks, keys))
+    outcome_numbers(int_set::copy(to_marks, to_keys, marks, keys))
 }
 
 // Where a walk starts.
