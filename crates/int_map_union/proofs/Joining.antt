@@ -26,7 +26,7 @@ use Rattle.int_slots.specs.Scanning.{scanning}
 use Rattle.int_slots.proofs.Bridge.{scan-bad, scan-live}
 use Rattle.int_slots.specs.Maps.{maps}
 use Rattle.kinds.specs.Told.{told}
-use Rattle.int_map_union.specs.Calls.{planOf, lacksOf, allStored}
+use Rattle.int_map_union.specs.Calls.{planOf, tableNeeds, allStored}
 use Rattle.kinds.specs.Calls.{sizedOf, unionOf}
 use Rattle.int_slots.proofs.MapSizes.{same-long}
 
@@ -68,15 +68,15 @@ module _ (l r : Cells values) where
       unfolding planOf union need ruined sizedOf doneSaid outcomeNumbers
       right-bad t = rw (f, g, scan-live values l p q .0, scan-bad values r s t)
 
-      module _ {z a : ℕ} (t : y ≡ scanned.Live z) (e : a ≡ lacksOf l r (length (r .marks))) where
+      module _ {z a : ℕ} (t : y ≡ scanned.Live z) (e : a ≡ tableNeeds l r (length (r .marks))) where
         -- room for the right's keys
         pub room-done : a ≤ length (l .marks) - n → outcomeNumbers outcome.Done ≡ planOf l r
-        unfolding planOf union need ruined needs lacksOf sizedOf doneSaid outcomeNumbers
+        unfolding planOf union need ruined needs tableNeeds sizedOf doneSaid outcomeNumbers
         room-done h = rw (f, g, scan-live values l p q .0, scan-live values r s t .0, ← e, scan-live values l p q .1, le-leb a (length (l .marks) - n) h) (rw (no-bytes, le-leb 0 (0 - used maps l) (omega arith)))
 
         -- or too few slots
         pub room-none : length (l .marks) - n < a → outcomeNumbers (outcome.Refused NoSlot) ≡ planOf l r
-        unfolding planOf union need ruined needs lacksOf sizedOf doneSaid outcomeNumbers
+        unfolding planOf union need ruined needs tableNeeds sizedOf doneSaid outcomeNumbers
         room-none h = rw (f, g, scan-live values l p q .0, scan-live values r s t .0, ← e, scan-live values l p q .1, lt-leb a (length (l .marks) - n) h)
 
 -- there are no more live slots than slots

@@ -7,7 +7,7 @@ ghost use Rattle.answers.specs.Numbers.{outcomeNumbers};
 ghost use Rattle.int_slots.specs.Maps.{maps, before, after};
 ghost use Rattle.int_slots.specs.Memory.{memory};
 ghost use Rattle.kinds.specs.Told.{told};
-ghost use Rattle.int_map_union.specs.Calls.{planOf, lackOf, lacksOf, slotStored, allStored};
+ghost use Rattle.int_map_union.specs.Calls.{planOf, slotNeeds, tableNeeds, slotStored, allStored};
 ghost use Rattle.kinds.specs.Calls.{sizedOf, unionOf};
 use answers::Outcome;
 use answers::Refusal;
@@ -15,9 +15,9 @@ use kinds::Probed;
 use kinds::Scanned;
 
 // What a slot of the right with this mark and key needs of the left: one slot where it is live and its key is absent.
-fn lack(marks: &[u8], keys: &[u64], values: &[u64], mark: u8, key: u64) -> usize
+fn slot_needs(marks: &[u8], keys: &[u64], values: &[u64], mark: u8, key: u64) -> usize
     requires { ⌜ sizedOf maps (memory (now marks) (now keys) (now values)) ≡ true ⌝ }
-    ensures { λ r. ⌜ r ≡ lackOf (before marks keys values) mark key ⌝ }
+    ensures { λ r. ⌜ r ≡ slotNeeds (before marks keys values) mark key ⌝ }
 {
     if mark == 1 {
         let seen = int_slots::map_probe(marks, keys, values, key);
@@ -32,7 +32,7 @@ fn lack(marks: &[u8], keys: &[u64], values: &[u64], mark: u8, key: u64) -> usize
 }
 
 // What the right needs of the left: a slot for each live slot whose key is absent.
-fn lacks(
+fn table_needs(
     marks: &[u8],
     keys: &[u64],
     values: &[u64],
@@ -41,12 +41,12 @@ fn lacks(
     right_values: &[u64],
 ) -> usize
     requires { ⌜ (sizedOf maps (memory (now marks) (now keys) (now values)) ≡ true) × (length (now «right_keys») ≡ length (now «right_marks»)) ⌝ }
-    ensures { λ r. ⌜ r ≡ lacksOf (before marks keys values) (before «right_marks» «right_keys» «right_values») (length (now («right_marks» .entry))) ⌝ }
+    ensures { λ r. ⌜ r ≡ tableNeeds (before marks keys values) (before «right_marks» «right_keys» «right_values») (length (now («right_marks» .entry))) ⌝ }
 {
     let mut sum = 0;
     let mut i = 0;
     while i < right_marks.len() {
-        sum += lack(marks, keys, values, right_marks[i], right_keys[i]);
+        sum += slot_needs(marks, keys, values, right_marks[i], right_keys[i]);
         i += 1;
     }
     sum
@@ -72,7 +72,9 @@ fn room(
     let Scanned::Live(_) = other else {
         return Outcome::Refused(Refusal::Damaged);
     };
-    if lacks(marks, keys, values, right_marks, right_keys, right_values) <= marks.len() - live {
+    if table_needs(marks, keys, values, right_marks, right_keys, right_values)
+        <= marks.len() - live
+    {
         return Outcome::Done;
     }
     Outcome::Refused(Refusal::NoSlot)

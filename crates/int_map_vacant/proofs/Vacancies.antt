@@ -28,10 +28,10 @@ use Rattle.kinds.specs.Probing.{along}
 use Rattle.int_slots.specs.Seeking.{probingBeside, probingMap}
 use Rattle.kinds.proofs.Bridge.{spotOf}
 use Rattle.int_slots.proofs.Seeking.{entry-probed, path-probed, free-inside}
-use Rattle.int_map_vacant.specs.declared.Standing.the-variants as standing
+use Rattle.int_map_vacant.specs.declared.InSlot.the-variants as in-slot
 use Rattle.int_slots.specs.Maps.{maps}
 use Rattle.kinds.specs.Told.{told}
-use Rattle.int_map_vacant.specs.Numbers.{standingNumbers}
+use Rattle.int_map_vacant.specs.Numbers.{inSlotNumbers}
 use Rattle.int_slots.specs.Kinds.{vacancyOf}
 use Rattle.kinds.specs.Calls.{standingOf}
 
@@ -74,25 +74,25 @@ module _ (marks keys vs : List ℕ) (k : ℕ) {r : Probed} (p : r ≡ probingMap
     unfolding probingMap
     vacancy-found = rw p (vacancy-probed (memory marks keys vs) s k)
 
-    pub fresh-free : {f e : ℕ} → r ≡ probed.Free f e → s ≡ f → outcomeNumbers outcome.Done ≡ vacancyOf (memory marks keys vs) s k
+    pub vacancy-free : {f e : ℕ} → r ≡ probed.Free f e → s ≡ f → outcomeNumbers outcome.Done ≡ vacancyOf (memory marks keys vs) s k
     unfolding vacancyOf outcomeNumbers doneSaid need
-    fresh-free {f} q l = rw (vacancy-found, q, eq-eqb s f l)
+    vacancy-free {f} q l = rw (vacancy-found, q, eq-eqb s f l)
 
-    pub fresh-other : {f e : ℕ} → r ≡ probed.Free f e → (s ≡ f → ⊥) → outcomeNumbers (outcome.Refused BadHandle) ≡ vacancyOf (memory marks keys vs) s k
+    pub vacancy-other : {f e : ℕ} → r ≡ probed.Free f e → (s ≡ f → ⊥) → outcomeNumbers (outcome.Refused BadHandle) ≡ vacancyOf (memory marks keys vs) s k
     unfolding vacancyOf outcomeNumbers doneSaid need
-    fresh-other {f} q l = rw (vacancy-found, q, ne-eqb s f l)
+    vacancy-other {f} q l = rw (vacancy-found, q, ne-eqb s f l)
 
-    pub fresh-hit : {f e : ℕ} → r ≡ probed.Hit f e → outcomeNumbers (outcome.Refused BadHandle) ≡ vacancyOf (memory marks keys vs) s k
+    pub vacancy-hit : {f e : ℕ} → r ≡ probed.Hit f e → outcomeNumbers (outcome.Refused BadHandle) ≡ vacancyOf (memory marks keys vs) s k
     unfolding vacancyOf outcomeNumbers doneSaid
-    fresh-hit q = rw (vacancy-found, q)
+    vacancy-hit q = rw (vacancy-found, q)
 
-    pub fresh-full : {e : ℕ} → r ≡ probed.Full e → outcomeNumbers (outcome.Refused BadHandle) ≡ vacancyOf (memory marks keys vs) s k
+    pub vacancy-full : {e : ℕ} → r ≡ probed.Full e → outcomeNumbers (outcome.Refused BadHandle) ≡ vacancyOf (memory marks keys vs) s k
     unfolding vacancyOf outcomeNumbers doneSaid
-    fresh-full q = rw (vacancy-found, q)
+    vacancy-full q = rw (vacancy-found, q)
 
-    pub fresh-refused : {x : Refusal} → r ≡ probed.Refused x → outcomeNumbers (outcome.Refused x) ≡ vacancyOf (memory marks keys vs) s k
+    pub vacancy-refused : {x : Refusal} → r ≡ probed.Refused x → outcomeNumbers (outcome.Refused x) ≡ vacancyOf (memory marks keys vs) s k
     unfolding vacancyOf outcomeNumbers doneSaid
-    fresh-refused q = rw (vacancy-found, q)
+    vacancy-refused q = rw (vacancy-found, q)
 
 -- what the answer says of the theory's
 done-ok : {a : Outcome} (x : Or (Unit {0})) → outcomeNumbers a ≡ doneSaid x → a ≡ outcome.Done → x ≡ ok tt
@@ -123,16 +123,16 @@ module _ (marks keys vs : List ℕ) (s k : ℕ) {a : Outcome} (p : outcomeNumber
   unfolding vacancyOf
   bad q = done-no (vacancy maps (memory marks keys vs) s k) p q
 
-  pub fresh-slot : a ≡ outcome.Done → (s < length marks) × (s < length keys) × (s < length vs)
+  pub vacancy-slot : a ≡ outcome.Done → (s < length marks) × (s < length keys) × (s < length vs)
   unfolding probingMap
-  fresh-slot q =
+  vacancy-slot q =
       let (e, f) = good-free s (probingBeside values (memory marks keys vs) k) (sym (vacancy-probed (memory marks keys vs) s k) ∙ good q) in
       free-inside (memory marks keys vs) k refl f
 
-  pub insert-done : (v : ℕ) → a ≡ outcome.Done → told (standingNumbers (standing.Now (record { slot = s }) v)) (memory (set marks s 1) (set keys s k) (set vs s v)) ≡ standingOf maps (memory marks keys vs) s k v
-  unfolding standingOf vacant-insert after-fill give acted standingNumbers standingSaid
+  pub insert-done : (v : ℕ) → a ≡ outcome.Done → told (inSlotNumbers (in-slot.Now (record { slot = s }) v)) (memory (set marks s 1) (set keys s k) (set vs s v)) ≡ standingOf maps (memory marks keys vs) s k v
+  unfolding standingOf vacant-insert after-fill give acted inSlotNumbers standingSaid
   insert-done v q = rw (good q)
 
-  pub insert-refused : {e : Refusal} (v : ℕ) → a ≡ outcome.Refused e → told (standingNumbers (standing.Refused e)) (memory marks keys vs) ≡ standingOf maps (memory marks keys vs) s k v
-  unfolding standingOf vacant-insert after-fill give acted standingNumbers standingSaid
+  pub insert-refused : {e : Refusal} (v : ℕ) → a ≡ outcome.Refused e → told (inSlotNumbers (in-slot.Refused e)) (memory marks keys vs) ≡ standingOf maps (memory marks keys vs) s k v
+  unfolding standingOf vacant-insert after-fill give acted inSlotNumbers standingSaid
   insert-refused v q = rw (bad q)

@@ -1,13 +1,13 @@
--- `int_map_occupied::held_in` meets its contract: damage, the live slot with the key, or no good handle.
+-- `int_map_occupied::value_in` meets its contract: damage, the live slot with the key, or no good handle.
 use borrow.Author.Tests.{eq-eqb, ne-eqb}
 use Rattle.model.specs.Calls.{need, gripOn}
 use Rattle.kinds.specs.Marks.{cell}
 use Rattle.kinds.proofs.Scanning.{cell-bad}
 use Rattle.answers.specs.Said.{heldSaid}
 use Rattle.int_map_occupied.specs.Numbers.{heldNumbers}
-use Rattle.int_map_occupied.proofs.Grips.{idle}
-use Rattle.int_map_occupied.proofs.held_in.Statement.{statement}
-use Rattle.int_map_occupied.proofs.held_in.Tie as tie
+use Rattle.int_map_occupied.proofs.Values.{idle}
+use Rattle.int_map_occupied.proofs.value_in.Statement.{statement}
+use Rattle.int_map_occupied.proofs.value_in.Tie as tie
 
 returns : tie.Need-returns
 unfolding heldNumbers heldSaid gripOn
@@ -25,5 +25,5 @@ returns-4 : tie.Need-returns-4
 unfolding heldNumbers heldSaid
 returns-4 c = rw (idle _ _ _ _ (c .before .if1 .left) (c .if2 .left))
 
-pub held-in-spec : {M : Type 1} → statement M
-held-in-spec = tie.close (tie.spec returns returns-2 returns-3 returns-4)
+pub value-in-spec : {M : Type 1} → statement M
+value-in-spec = tie.close (tie.spec returns returns-2 returns-3 returns-4)

@@ -64,17 +64,17 @@ module _ (marks keys vs : List ℕ) where
   module _ (s k : ℕ) where
     -- the handle's test, one test after the other
     module _ {b : Bool} (p : b ≡ sizedOf maps (memory marks keys vs)) where
-      pub grip-held : {n : Numbers} → b ≡ true → s < length marks → n ≡ heldSaid s (gripOn maps k (cell (getD marks s 0) (getD keys s 0) (getD vs s 0))) → n ≡ heldOf maps (memory marks keys vs) s k
+      pub value-slot : {n : Numbers} → b ≡ true → s < length marks → n ≡ heldSaid s (gripOn maps k (cell (getD marks s 0) (getD keys s 0) (getD vs s 0))) → n ≡ heldOf maps (memory marks keys vs) s k
       unfolding heldOf occupied-get grip need pass sizedOf
-      grip-held q l h = rw (sym p ∙ q, lt-ltb s (length marks) l) h
+      value-slot q l h = rw (sym p ∙ q, lt-ltb s (length marks) l) h
 
-      pub grip-beyond : b ≡ true → length marks ≤ s → heldNumbers (held.Refused BadHandle) ≡ heldOf maps (memory marks keys vs) s k
+      pub value-beyond : b ≡ true → length marks ≤ s → heldNumbers (held.Refused BadHandle) ≡ heldOf maps (memory marks keys vs) s k
       unfolding heldOf occupied-get grip need pass sizedOf heldNumbers heldSaid
-      grip-beyond q l = rw (sym p ∙ q, le-ltb s (length marks) l)
+      value-beyond q l = rw (sym p ∙ q, le-ltb s (length marks) l)
 
-      pub grip-unfit : b ≡ false → heldNumbers (held.Refused Sizes) ≡ heldOf maps (memory marks keys vs) s k
+      pub value-unfit : b ≡ false → heldNumbers (held.Refused Sizes) ≡ heldOf maps (memory marks keys vs) s k
       unfolding heldOf occupied-get need sizedOf heldNumbers heldSaid
-      grip-unfit q = rw (sym p ∙ q)
+      value-unfit q = rw (sym p ∙ q)
 
     -- a good handle's slot is one of the table's
     good-slot : {v : ℕ} → occupied-get maps (memory marks keys vs) s k ≡ ok v → (s < length marks) × (length keys ≡ length marks) × (length vs ≡ length marks)
