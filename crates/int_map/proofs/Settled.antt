@@ -6,8 +6,8 @@ use Rattle.kinds.specs.Columns.{values}
 use Rattle.kinds.specs.Told.{SettledWith}
 use Rattle.kinds.proofs.Settled.{settled-with}
 use Rattle.int_slots.specs.Memory.{Cells}
-use Rattle.int_map.specs.Calls.{insertOf}
-use Rattle.kinds.specs.Calls.{makeOf, removeOf}
+use Rattle.int_slots.specs.Kinds.{insertOf}
+use Rattle.kinds.specs.Calls.{makeOf, removeOf, copyOf}
 use Rattle.int_slots.specs.Maps.{maps}
 
 module _ (m : Cells values) where
@@ -26,3 +26,7 @@ module _ (m : Cells values) where
   -- `remove`.
   pub remove-settled : (k : ℕ) → SettledWith removedNumbers (removeOf maps m k)
   remove-settled k = settled-with removedNumbers-injective
+
+  -- `copy`.
+  pub copy-settled : (from : Cells values) → SettledWith outcomeNumbers (copyOf maps m from)
+  copy-settled from = settled-with outcomeNumbers-injective

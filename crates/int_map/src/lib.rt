@@ -2,8 +2,8 @@
 ghost use mathlib.Core.Path.{_≡_};
 ghost use Rattle.answers.specs.Numbers.{outcomeNumbers, insertedNumbers, removedNumbers};
 ghost use Rattle.kinds.specs.Told.{told};
-ghost use Rattle.int_map.specs.Calls.{insertOf};
-ghost use Rattle.kinds.specs.Calls.{makeOf, removeOf};
+ghost use Rattle.int_slots.specs.Kinds.{insertOf};
+ghost use Rattle.kinds.specs.Calls.{makeOf, removeOf, copyOf};
 ghost use Rattle.int_slots.specs.Maps.{maps, before, after};
 use answers::Inserted;
 use answers::Outcome;
@@ -11,6 +11,8 @@ use answers::Refusal;
 use answers::Removed;
 use arrays::clear_bytes;
 use arrays::clear_words;
+use arrays::copy_bytes;
+use arrays::copy_words;
 use kinds::Probed;
 
 // Makes an empty map of the lent arrays.
@@ -21,9 +23,10 @@ pub fn make(marks: &mut [u8], keys: &mut [u64], values: &mut [u64]) -> Outcome
         clear_bytes(marks);
         clear_words(keys);
         clear_words(values);
-        return Outcome::Done;
+        Outcome::Done
+    } else {
+        Outcome::Refused(Refusal::Sizes)
     }
-    Outcome::Refused(Refusal::Sizes)
 }
 
 // Empties a map: every slot becomes never used.
@@ -43,7 +46,7 @@ pub fn insert(
 ) -> Inserted
     ensures { λ r. ⌜ told (insertedNumbers r) (after marks keys values) ≡ insertOf (before marks keys values) key value ⌝ }
 {
-    let seen = int_slots::seek(marks, keys, values, key);
+    let seen = int_slots::map_probe(marks, keys, values, key);
     match seen {
         Probed::Hit(slot, examined) => {
             let old = values[slot];
@@ -65,7 +68,7 @@ pub fn insert(
 pub fn remove(marks: &mut [u8], keys: &mut [u64], values: &mut [u64], key: u64) -> Removed
     ensures { λ r. ⌜ told (removedNumbers r) (after marks keys values) ≡ removeOf maps (before marks keys values) key ⌝ }
 {
-    let seen = int_slots::seek(marks, keys, values, key);
+    let seen = int_slots::map_probe(marks, keys, values, key);
     match seen {
         Probed::Hit(slot, examined) => {
             let old = values[slot];
@@ -78,4 +81,28 @@ pub fn remove(marks: &mut [u8], keys: &mut [u64], values: &mut [u64], key: u64) 
         Probed::Full(examined) => Removed::Absent(examined),
         Probed::Refused(r) => Removed::Refused(r),
     }
+}
+
+// Makes a map equal to another of equal sizes, in every slot.
+pub fn copy(
+    to_marks: &mut [u8],
+    to_keys: &mut [u64],
+    to_values: &mut [u64],
+    marks: &[u8],
+    keys: &[u64],
+    values: &[u64],
+) -> Outcome
+    ensures { λ r. ⌜ told (outcomeNumbers r) (after «to_marks» «to_keys» «to_values») ≡ copyOf maps (before «to_marks» «to_keys» «to_values») (before marks keys values) ⌝ }
+{
+    if int_slots::map_fits(to_marks, to_keys, to_values) {
+        if int_slots::map_fits(marks, keys, values) {
+            if to_marks.len() == marks.len() {
+                copy_bytes(to_marks, marks);
+                copy_words(to_keys, keys);
+                copy_words(to_values, values);
+                return Outcome::Done;
+            }
+        }
+    }
+    Outcome::Refused(Refusal::Sizes)
 }

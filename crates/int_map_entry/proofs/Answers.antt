@@ -21,28 +21,28 @@ use Rattle.int_map_occupied.specs.declared.Held.{Held}
 use Rattle.int_map_occupied.specs.declared.Held.the-variants as held
 use Rattle.int_map_occupied.specs.declared.Swapped.{Swapped}
 use Rattle.int_map_occupied.specs.declared.Swapped.the-variants as swapped
-use Rattle.int_map_vacant.specs.declared.Standing.the-variants as standing
+use Rattle.int_map_vacant.specs.declared.InSlot.the-variants as in-slot
 use Rattle.int_slots.specs.Maps.{maps}
 use Rattle.kinds.specs.Told.{told}
 use Rattle.kinds.proofs.Told.{said, left, retold}
 use Rattle.answers.specs.Said.{swappedSaid, standingSaid}
 use Rattle.int_map_occupied.specs.Numbers.{heldNumbers, swappedNumbers}
-use Rattle.int_map_vacant.specs.Numbers.{standingNumbers}
+use Rattle.int_map_vacant.specs.Numbers.{inSlotNumbers}
 use Rattle.kinds.specs.Calls.{heldOf, setOf, standingOf, slotOf, orInsertOf, insertEntryOf}
-use Rattle.int_map_entry.specs.Calls.{placeOf, handleOf}
-use Rattle.int_map_occupied.proofs.Grips.{get-ok, get-no}
+use Rattle.int_map_entry.specs.Calls.{vacantSlotOf, handleOf}
+use Rattle.int_map_occupied.proofs.Values.{get-ok, get-no}
 
 -- an answer that is not vacant counts as slot S
-pub place-other : (S : ℕ) (a : Entered) → (tagOf the-type a ≡ 0) ⊎ (tagOf the-type a ≡ 2) → S ≡ placeOf S a
-unfolding placeOf
-place-other S (entered.Occupied h v e) t = refl
-place-other S (entered.Vacant h e) (inl t) = let z : ⊥ = omega arith in absurd z
-place-other S (entered.Vacant h e) (inr t) = let z : ⊥ = omega arith in absurd z
-place-other S (entered.Refused r) t = refl
+pub vacant-other : (S : ℕ) (a : Entered) → (tagOf the-type a ≡ 0) ⊎ (tagOf the-type a ≡ 2) → S ≡ vacantSlotOf S a
+unfolding vacantSlotOf
+vacant-other S (entered.Occupied h v e) t = refl
+vacant-other S (entered.Vacant h e) (inl t) = let z : ⊥ = omega arith in absurd z
+vacant-other S (entered.Vacant h e) (inr t) = let z : ⊥ = omega arith in absurd z
+vacant-other S (entered.Refused r) t = refl
 
 -- an answer that is not occupied is a vacant handle
-not-occupied : (S : ℕ) (a : Entered) → (tagOf the-type a ≡ 1) ⊎ (tagOf the-type a ≡ 2) → handleOf S a ≡ on-vacant (placeOf S a)
-unfolding handleOf placeOf
+not-occupied : (S : ℕ) (a : Entered) → (tagOf the-type a ≡ 1) ⊎ (tagOf the-type a ≡ 2) → handleOf S a ≡ on-vacant (vacantSlotOf S a)
+unfolding handleOf vacantSlotOf
 not-occupied S (entered.Occupied h v e) (inl t) = let z : ⊥ = omega arith in absurd z
 not-occupied S (entered.Occupied h v e) (inr t) = let z : ⊥ = omega arith in absurd z
 not-occupied S (entered.Vacant h e) t = refl
@@ -61,7 +61,7 @@ swapped-no s (ok w) p q = other-case (rw q at p) refl
 
 module _ (marks keys vs : List ℕ) (k v : ℕ) (a : Entered) where
   -- everything but occupied: the vacant handle's insert
-  module _ {s : ℕ} {n : Numbers} {m : Cells values} (t : (tagOf the-type a ≡ 1) ⊎ (tagOf the-type a ≡ 2)) (p : s ≡ placeOf (length marks) a) (q : told n m ≡ standingOf maps (memory marks keys vs) s k v) where
+  module _ {s : ℕ} {n : Numbers} {m : Cells values} (t : (tagOf the-type a ≡ 1) ⊎ (tagOf the-type a ≡ 2)) (p : s ≡ vacantSlotOf (length marks) a) (q : told n m ≡ standingOf maps (memory marks keys vs) s k v) where
     pub or-insert-vacant : told n m ≡ orInsertOf maps (memory marks keys vs) (handleOf (length marks) a) k v
     unfolding orInsertOf standingOf or-insert after-or-insert slotOf
     or-insert-vacant = rw (not-occupied (length marks) a t, ← p) q
@@ -77,20 +77,20 @@ module _ (marks keys vs : List ℕ) (k v : ℕ) (a : Entered) where
 
     -- occupied: the handle's get
     module _ {r : Held} (p : heldNumbers r ≡ heldOf maps (memory marks keys vs) (h .slot) k) where
-      pub or-insert-kept : {x : ℕ} {g : Occupied} → r ≡ held.Value x g → told (standingNumbers (standing.Now h x)) (memory marks keys vs) ≡ orInsertOf maps (memory marks keys vs) (handleOf (length marks) a) k v
-      unfolding orInsertOf or-insert after-or-insert slotOf standingNumbers standingSaid
+      pub or-insert-kept : {x : ℕ} {g : Occupied} → r ≡ held.Value x g → told (inSlotNumbers (in-slot.Now h x)) (memory marks keys vs) ≡ orInsertOf maps (memory marks keys vs) (handleOf (length marks) a) k v
+      unfolding orInsertOf or-insert after-or-insert slotOf inSlotNumbers standingSaid
       or-insert-kept q = rw (on, get-ok marks keys vs (h .slot) k p q)
 
-      pub or-insert-refused : {x : Refusal} → r ≡ held.Refused x → told (standingNumbers (standing.Refused x)) (memory marks keys vs) ≡ orInsertOf maps (memory marks keys vs) (handleOf (length marks) a) k v
-      unfolding orInsertOf or-insert after-or-insert slotOf standingNumbers standingSaid
+      pub or-insert-refused : {x : Refusal} → r ≡ held.Refused x → told (inSlotNumbers (in-slot.Refused x)) (memory marks keys vs) ≡ orInsertOf maps (memory marks keys vs) (handleOf (length marks) a) k v
+      unfolding orInsertOf or-insert after-or-insert slotOf inSlotNumbers standingSaid
       or-insert-refused q = rw (on, get-no marks keys vs (h .slot) k p q)
 
     -- or its set
     module _ {r : Swapped} {marks′ keys′ vs′ : List ℕ} (p : told (swappedNumbers r) (memory marks′ keys′ vs′) ≡ setOf maps (memory marks keys vs) (h .slot) k v) where
-      pub insert-entry-set : {x : ℕ} {g : Occupied} → r ≡ swapped.Was x g → told (standingNumbers (standing.Now h v)) (memory marks′ keys′ vs′) ≡ insertEntryOf maps (memory marks keys vs) (handleOf (length marks) a) k v
-      unfolding setOf insertEntryOf insert-entry after-insert-entry slotOf give standingNumbers standingSaid
+      pub insert-entry-set : {x : ℕ} {g : Occupied} → r ≡ swapped.Was x g → told (inSlotNumbers (in-slot.Now h v)) (memory marks′ keys′ vs′) ≡ insertEntryOf maps (memory marks keys vs) (handleOf (length marks) a) k v
+      unfolding setOf insertEntryOf insert-entry after-insert-entry slotOf give inSlotNumbers standingSaid
       insert-entry-set q = rw on (retold (rw (swapped-ok (h .slot) (occupied-get maps (memory marks keys vs) (h .slot) k) (said p) q)) (left p))
 
-      pub insert-entry-refused : {x : Refusal} → r ≡ swapped.Refused x → told (standingNumbers (standing.Refused x)) (memory marks′ keys′ vs′) ≡ insertEntryOf maps (memory marks keys vs) (handleOf (length marks) a) k v
-      unfolding setOf insertEntryOf insert-entry after-insert-entry slotOf give standingNumbers standingSaid
+      pub insert-entry-refused : {x : Refusal} → r ≡ swapped.Refused x → told (inSlotNumbers (in-slot.Refused x)) (memory marks′ keys′ vs′) ≡ insertEntryOf maps (memory marks keys vs) (handleOf (length marks) a) k v
+      unfolding setOf insertEntryOf insert-entry after-insert-entry slotOf give inSlotNumbers standingSaid
       insert-entry-refused q = rw on (retold (rw (swapped-no (h .slot) (occupied-get maps (memory marks keys vs) (h .slot) k) (said p) q)) (left p))

@@ -1,5 +1,4 @@
 -- The laws of the integer map's entries.
 pub mod Equal
-pub mod Places
 pub mod Answers
 pub mod Settled

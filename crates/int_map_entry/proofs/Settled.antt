@@ -5,8 +5,8 @@ use Rattle.kinds.specs.Columns.{values}
 use Rattle.kinds.specs.Told.{Settled, SettledWith}
 use Rattle.kinds.proofs.Settled.{settled, settled-with}
 use Rattle.int_slots.specs.Memory.{Cells}
-use Rattle.int_map_vacant.specs.Numbers.{standingNumbers}
-use Rattle.int_map_vacant.proofs.Equal.{standingNumbers-injective}
+use Rattle.int_map_vacant.specs.Numbers.{inSlotNumbers}
+use Rattle.int_map_vacant.proofs.Equal.{inSlotNumbers-injective}
 use Rattle.int_map_entry.specs.declared.Entered.{Entered}
 use Rattle.int_map_entry.specs.Numbers.{enteredNumbers}
 use Rattle.int_map_entry.specs.Calls.{handleOf}
@@ -20,9 +20,9 @@ module _ (m : Cells values) where
   entry-settled k = settled enteredNumbers-injective
 
   -- `Entered::or_insert`.
-  pub or-insert-settled : (e : Entered) (k v : ℕ) → SettledWith standingNumbers (orInsertOf maps m (handleOf (length (m .marks)) e) k v)
-  or-insert-settled e k v = settled-with standingNumbers-injective
+  pub or-insert-settled : (e : Entered) (k v : ℕ) → SettledWith inSlotNumbers (orInsertOf maps m (handleOf (length (m .marks)) e) k v)
+  or-insert-settled e k v = settled-with inSlotNumbers-injective
 
   -- `Entered::insert_entry`.
-  pub insert-entry-settled : (e : Entered) (k v : ℕ) → SettledWith standingNumbers (insertEntryOf maps m (handleOf (length (m .marks)) e) k v)
-  insert-entry-settled e k v = settled-with standingNumbers-injective
+  pub insert-entry-settled : (e : Entered) (k v : ℕ) → SettledWith inSlotNumbers (insertEntryOf maps m (handleOf (length (m .marks)) e) k v)
+  insert-entry-settled e k v = settled-with inSlotNumbers-injective

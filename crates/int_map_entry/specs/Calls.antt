@@ -5,10 +5,10 @@ use Rattle.int_map_entry.specs.declared.Entered.{Entered}
 use Rattle.int_map_entry.specs.declared.Entered.the-variants.{Occupied, Vacant, Refused}
 
 -- The slot of an entry answer that is not occupied: a refused one counts as a vacant handle of slot S.
-unfoldable pub placeOf : ℕ → Entered → ℕ
-placeOf S (Occupied h v e) = S
-placeOf S (Vacant h e) = h .slot
-placeOf S (Refused r) = S
+unfoldable pub vacantSlotOf : ℕ → Entered → ℕ
+vacantSlotOf S (Occupied h v e) = S
+vacantSlotOf S (Vacant h e) = h .slot
+vacantSlotOf S (Refused r) = S
 
 -- The handle that an entry answer is, in a table of S slots.
 unfoldable pub handleOf : ℕ → Entered → Handle

@@ -3,9 +3,9 @@ ghost use mathlib.Core.Path.{_≡_};
 ghost use lib.ListN.{length};
 ghost use Rattle.kinds.specs.Handing.{Hands};
 ghost use Rattle.kinds.specs.Told.{told};
-ghost use Rattle.int_map_vacant.specs.Numbers.{standingNumbers};
+ghost use Rattle.int_map_vacant.specs.Numbers.{inSlotNumbers};
 ghost use Rattle.int_map_entry.specs.Numbers.{enteredNumbers};
-ghost use Rattle.int_map_entry.specs.Calls.{placeOf, handleOf};
+ghost use Rattle.int_map_entry.specs.Calls.{vacantSlotOf, handleOf};
 ghost use Rattle.kinds.specs.Calls.{entryOf, orInsertOf, insertEntryOf};
 ghost use Rattle.int_slots.specs.Maps.{maps, before, after};
 use answers::Numbers;
@@ -20,7 +20,7 @@ pub use int_map_occupied::Occupied;
 pub use int_map_occupied::Swapped;
 pub use int_map_occupied::Taken;
 pub use int_map_occupied::TakenEntry;
-pub use int_map_vacant::Standing;
+pub use int_map_vacant::InSlot;
 pub use int_map_vacant::Vacant;
 
 // The answer of entry: an occupied handle with the value, or a vacant one, each with the examined number.
@@ -34,7 +34,7 @@ pub enum Entered {
 pub fn entry(marks: &[u8], keys: &[u64], values: &[u64], key: u64) -> Entered
     ensures { λ r. ⌜ enteredNumbers r ≡ entryOf maps (before marks keys values) key ⌝ }
 {
-    let seen = int_slots::seek(marks, keys, values, key);
+    let seen = int_slots::map_probe(marks, keys, values, key);
     match seen {
         Probed::Hit(slot, examined) => Entered::Occupied(Occupied { slot }, values[slot], examined),
         Probed::Free(slot, examined) => Entered::Vacant(Vacant { slot }, examined),
@@ -45,13 +45,13 @@ pub fn entry(marks: &[u8], keys: &[u64], values: &[u64], key: u64) -> Entered
 
 impl Entered {
     // The vacant handle of an answer that is not occupied; a refused one counts as a handle of slot S.
-    fn place(self, size: usize) -> Vacant
-        ensures { λ r. ⌜ r .slot ≡ placeOf size self ⌝ }
+    fn vacant(self, size: usize) -> Vacant
+        ensures { λ r. ⌜ r .slot ≡ vacantSlotOf size self ⌝ }
     {
-        let Entered::Vacant(place, _) = self else {
+        let Entered::Vacant(vacant, _) = self else {
             return Vacant { slot: size };
         };
-        place
+        vacant
     }
 
     // Keeps a present value, else puts the default in; the value now in the slot is answered.
@@ -62,17 +62,17 @@ impl Entered {
         values: &mut [u64],
         key: u64,
         default: u64,
-    ) -> Standing
-        ensures { λ r. ⌜ told (standingNumbers r) (after marks keys values) ≡ orInsertOf maps (before marks keys values) (handleOf (length (now (marks .entry))) self) key default ⌝ }
+    ) -> InSlot
+        ensures { λ r. ⌜ told (inSlotNumbers r) (after marks keys values) ≡ orInsertOf maps (before marks keys values) (handleOf (length (now (marks .entry))) self) key default ⌝ }
     {
         let Entered::Occupied(handle, _, _) = self else {
-            return self.place(marks.len())
+            return self.vacant(marks.len())
                 .insert(marks, keys, values, key, default);
         };
         let held = handle.get(marks, keys, values, key);
         match held {
-            Held::Value(value, _) => Standing::Now(handle, value),
-            Held::Refused(r) => Standing::Refused(r),
+            Held::Value(value, _) => InSlot::Now(handle, value),
+            Held::Refused(r) => InSlot::Refused(r),
         }
     }
 
@@ -84,17 +84,17 @@ impl Entered {
         values: &mut [u64],
         key: u64,
         value: u64,
-    ) -> Standing
-        ensures { λ r. ⌜ told (standingNumbers r) (after marks keys values) ≡ insertEntryOf maps (before marks keys values) (handleOf (length (now (marks .entry))) self) key value ⌝ }
+    ) -> InSlot
+        ensures { λ r. ⌜ told (inSlotNumbers r) (after marks keys values) ≡ insertEntryOf maps (before marks keys values) (handleOf (length (now (marks .entry))) self) key value ⌝ }
     {
         let Entered::Occupied(handle, _, _) = self else {
-            return self.place(marks.len())
+            return self.vacant(marks.len())
                 .insert(marks, keys, values, key, value);
         };
         let swapped = handle.set(marks, keys, values, key, value);
         match swapped {
-            Swapped::Was(_, _) => Standing::Now(handle, value),
-            Swapped::Refused(r) => Standing::Refused(r),
+            Swapped::Was(_, _) => InSlot::Now(handle, value),
+            Swapped::Refused(r) => InSlot::Refused(r),
         }
     }
 }

@@ -1,4 +1,4 @@
 -- The laws of the integer map's occupied handles.
 pub mod Equal
-pub mod Grips
+pub mod Values
 pub mod Settled

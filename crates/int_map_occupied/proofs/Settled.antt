@@ -5,7 +5,7 @@ use Rattle.kinds.specs.Told.{Settled, SettledWith}
 use Rattle.kinds.proofs.Settled.{settled, settled-with}
 use Rattle.int_slots.specs.Memory.{Cells}
 use Rattle.int_map_occupied.specs.Numbers.{heldNumbers, swappedNumbers, takenNumbers, takenEntryNumbers}
-use Rattle.int_map_occupied.specs.Calls.{removeEntryOf}
+use Rattle.int_slots.specs.Kinds.{removeEntryOf}
 use Rattle.kinds.specs.Calls.{heldOf, setOf, takenOf}
 use Rattle.int_slots.specs.Maps.{maps}
 use Rattle.int_map_occupied.proofs.Equal.{heldNumbers-injective, swappedNumbers-injective, takenNumbers-injective, takenEntryNumbers-injective}

@@ -1,3 +1,2 @@
 -- The definitions of the integer map's occupied handles.
 pub mod Numbers
-pub mod Calls

@@ -6,7 +6,7 @@ ghost use Rattle.int_slots.specs.Maps.{maps, before, after};
 ghost use Rattle.kinds.specs.Told.{told};
 ghost use Rattle.answers.specs.Said.{heldSaid};
 ghost use Rattle.int_map_occupied.specs.Numbers.{heldNumbers, swappedNumbers, takenNumbers, takenEntryNumbers};
-ghost use Rattle.int_map_occupied.specs.Calls.{removeEntryOf};
+ghost use Rattle.int_slots.specs.Kinds.{removeEntryOf};
 ghost use Rattle.kinds.specs.Calls.{heldOf, setOf, takenOf};
 use answers::Numbers;
 use answers::Refusal;
@@ -43,7 +43,7 @@ pub enum TakenEntry {
 }
 
 // Whether a slot with this mark, key and value is live and holds the key.
-fn held_in(mark: u8, held: u64, value: u64, slot: usize, key: u64) -> Held
+fn value_in(mark: u8, held: u64, value: u64, slot: usize, key: u64) -> Held
     ensures { λ r. ⌜ heldNumbers r ≡ heldSaid slot (gripOn maps key (cell mark held value)) ⌝ }
 {
     if 2 < mark {
@@ -59,12 +59,12 @@ fn held_in(mark: u8, held: u64, value: u64, slot: usize, key: u64) -> Held
 }
 
 // What an occupied handle of this slot holds for the key: the value, or a refusal.
-fn grip(marks: &[u8], keys: &[u64], values: &[u64], slot: usize, key: u64) -> Held
+fn value_of(marks: &[u8], keys: &[u64], values: &[u64], slot: usize, key: u64) -> Held
     ensures { λ r. ⌜ heldNumbers r ≡ heldOf maps (before marks keys values) slot key ⌝ }
 {
     if int_slots::map_fits(marks, keys, values) {
         if slot < marks.len() {
-            return held_in(marks[slot], keys[slot], values[slot], slot, key);
+            return value_in(marks[slot], keys[slot], values[slot], slot, key);
         }
         return Held::Refused(Refusal::BadHandle);
     }
@@ -76,7 +76,7 @@ impl Occupied {
     pub fn get(self, marks: &[u8], keys: &[u64], values: &[u64], key: u64) -> Held
         ensures { λ r. ⌜ heldNumbers r ≡ heldOf maps (before marks keys values) (self .slot) key ⌝ }
     {
-        grip(marks, keys, values, self.slot, key)
+        value_of(marks, keys, values, self.slot, key)
     }
 
     // Gives the slot another value; the old one is answered.
@@ -91,7 +91,7 @@ impl Occupied {
         ensures { λ r. ⌜ told (swappedNumbers r) (after marks keys values) ≡ setOf maps (before marks keys values) (self .slot) key value ⌝ }
     {
         let slot = self.slot;
-        let held = grip(marks, keys, values, slot, key);
+        let held = value_of(marks, keys, values, slot, key);
         match held {
             Held::Value(old, _) => {
                 values[slot] = value;
@@ -106,7 +106,7 @@ impl Occupied {
         ensures { λ r. ⌜ told (takenNumbers r) (after marks keys values) ≡ takenOf maps (before marks keys values) (self .slot) key ⌝ }
     {
         let slot = self.slot;
-        let held = grip(marks, keys, values, slot, key);
+        let held = value_of(marks, keys, values, slot, key);
         match held {
             Held::Value(old, _) => {
                 marks[slot] = 2;

@@ -1,92 +1,46 @@
--- What the tests and callees of each call say of its definition: one law for each return of the code.
+-- What the test of the values says of each call but get: as many as marks, and the set of the keys tells the same; else refusal 1.
 use Prim.Native.Nat.{ℕ}
-use mathlib.Core.Bool.{Bool, true, false}
-use mathlib.Core.List.{List}
 use mathlib.Core.Path.{_≡_}
-use lib.ListN.{length, getD}
-use Rattle.model.specs.Calls as model
-use Rattle.model.specs.Calls.{need, get, capacity}
-use Rattle.answers.specs.declared.Refusal.{Refusal}
-use Rattle.answers.specs.declared.Refusal.the-variants.{Sizes, Damaged}
+use borrow.Author.Tests.{eq-eqb}
+use lib.ListN.{length}
+use Rattle.answers.specs.declared.Refusal.the-variants.{Sizes}
 use Rattle.answers.specs.declared.Counted.the-variants as counted
-use Rattle.answers.specs.declared.Got.the-variants as got
+use Rattle.answers.specs.declared.Emptiness.the-variants as emptiness
+use Rattle.answers.specs.declared.Reserved.the-variants as reserved
 use Rattle.answers.specs.declared.Contained.the-variants as contained
-use Rattle.answers.specs.Numbers.{countedNumbers, gotNumbers, containedNumbers}
-use Rattle.answers.specs.Said.{countSaid, gotSaid, containedSaid}
-use Rattle.kinds.specs.declared.Probed.{Probed}
-use Rattle.kinds.specs.declared.Probed.the-variants.{Hit, Free, Full, Refused}
-use Rattle.kinds.specs.declared.Scanned.{Scanned}
-use Rattle.kinds.specs.declared.Scanned.the-variants as scanned
+use Rattle.answers.specs.Numbers.{countedNumbers, emptinessNumbers, reservedNumbers, containedNumbers}
 use Rattle.kinds.specs.Columns.{values}
-use Rattle.kinds.proofs.Bridge.{seenOf}
-use Rattle.int_slots.specs.Memory.{memory}
+use Rattle.kinds.specs.Calls.{capacityOf, lenOf, isEmptyOf, reserveOf, containsOf}
+use Rattle.kinds.proofs.Beside.{Beside}
+use Rattle.kinds.proofs.Sizing.{capacity-unsized, len-unsized, empty-unsized, reserve-unsized, contains-unsized}
+use Rattle.int_slots.specs.Memory.{Cells}
 use Rattle.int_slots.specs.Maps.{maps}
-use Rattle.int_slots.specs.Scanning.{scanning}
-use Rattle.int_slots.specs.Seeking.{fittingMap, seekingMap}
-use Rattle.int_slots.proofs.Bridge.{scan-live, scan-bad}
-use Rattle.int_slots.proofs.Seeking.{get-seeking}
-use Rattle.int_slots.proofs.MapSizes.{fit, unfit}
-use Rattle.kinds.specs.Calls.{capacityOf, lenOf, getOf, containsOf}
+use Rattle.int_slots.specs.Sets.{sets, memory}
+use Rattle.int_slots.proofs.Beside.{beside-set, contains-set}
+use Rattle.int_slots.proofs.MapSizes.{map-short}
 
-module _ (marks keys vs : List ℕ) where
-  module _ {b : Bool} (p : b ≡ fittingMap marks keys vs) where
-    -- capacity
-    pub capacity-done : b ≡ true → countedNumbers (counted.Count (length marks)) ≡ capacityOf maps (memory marks keys vs)
-    unfolding capacityOf capacity need countSaid countedNumbers
-    capacity-done q = rw (fit marks keys vs p q)
+module _ (m : Cells values) where
+  -- as many values as marks: the set of the keys tells the same
+  module _ (e : length (m .marks) ≡ length (m .words)) where
+    pub as-set : Beside maps sets m (memory (m .marks) (m .keys))
+    as-set = beside-set values m (eq-eqb (length (m .marks)) (length (m .words)) e)
 
-    pub capacity-not : b ≡ false → countedNumbers (counted.Refused Sizes) ≡ capacityOf maps (memory marks keys vs)
-    unfolding capacityOf capacity need countSaid countedNumbers
-    capacity-not q = rw (unfit marks keys vs p q)
+    pub contains-as-set : (k : ℕ) → containsOf sets (memory (m .marks) (m .keys)) k ≡ containsOf maps m k
+    contains-as-set k = contains-set values m (eq-eqb (length (m .marks)) (length (m .words)) e) k
 
-    -- len
-    pub len-live : b ≡ true → {r : Scanned} {n : ℕ} → r ≡ scanning marks → r ≡ scanned.Live n → countedNumbers (counted.Count n) ≡ lenOf maps (memory marks keys vs)
-    unfolding lenOf model.length need countSaid countedNumbers
-    len-live q s t = let (h, l, u) = scan-live values (memory marks keys vs) s t in rw (fit marks keys vs p q, h, l)
+  -- other many: refusal 1
+  module _ (h : length (m .marks) ≡ length (m .words) → ⊥) where
+    pub capacity-short : countedNumbers (counted.Refused Sizes) ≡ capacityOf maps m
+    capacity-short = capacity-unsized maps m (map-short m h)
 
-    pub len-bad : b ≡ true → {r : Scanned} → r ≡ scanning marks → r ≡ scanned.Bad → countedNumbers (counted.Refused Damaged) ≡ lenOf maps (memory marks keys vs)
-    unfolding lenOf model.length need countSaid countedNumbers
-    len-bad q s t = rw (fit marks keys vs p q, scan-bad values (memory marks keys vs) s t)
+    pub len-short : countedNumbers (counted.Refused Sizes) ≡ lenOf maps m
+    len-short = len-unsized maps m (map-short m h)
 
-    pub len-not : b ≡ false → countedNumbers (counted.Refused Sizes) ≡ lenOf maps (memory marks keys vs)
-    unfolding lenOf model.length need countSaid countedNumbers
-    len-not q = rw (unfit marks keys vs p q)
+    pub empty-short : emptinessNumbers (emptiness.Refused Sizes) ≡ isEmptyOf maps m
+    empty-short = empty-unsized maps m (map-short m h)
 
-  module _ (k : ℕ) {r : Probed} (p : r ≡ seekingMap marks keys vs k) where
-    get-is : get maps (memory marks keys vs) k ≡ seenOf (λ i. getD vs i 0) r
-    unfolding seekingMap
-    get-is = rw p (get-seeking values (memory marks keys vs) k)
+    pub reserve-short : (asked : ℕ) → reservedNumbers (reserved.Refused Sizes) ≡ reserveOf maps m asked
+    reserve-short asked = reserve-unsized maps m (map-short m h) asked
 
-    -- get
-    pub get-hit : {s e : ℕ} → r ≡ Hit s e → gotNumbers (got.Found (getD vs s 0) s e) ≡ getOf maps (memory marks keys vs) k
-    unfolding getOf gotSaid gotNumbers
-    get-hit q = rw (get-is, q)
-
-    pub get-free : {s e : ℕ} → r ≡ Free s e → gotNumbers (got.Absent e) ≡ getOf maps (memory marks keys vs) k
-    unfolding getOf gotSaid gotNumbers
-    get-free q = rw (get-is, q)
-
-    pub get-full : {e : ℕ} → r ≡ Full e → gotNumbers (got.Absent e) ≡ getOf maps (memory marks keys vs) k
-    unfolding getOf gotSaid gotNumbers
-    get-full q = rw (get-is, q)
-
-    pub get-refused : {x : Refusal} → r ≡ Refused x → gotNumbers (got.Refused x) ≡ getOf maps (memory marks keys vs) k
-    unfolding getOf gotSaid gotNumbers
-    get-refused q = rw (get-is, q)
-
-    -- contains_key
-    pub contains-hit : {s e : ℕ} → r ≡ Hit s e → containedNumbers (contained.Present e) ≡ containsOf maps (memory marks keys vs) k
-    unfolding containsOf containedSaid containedNumbers
-    contains-hit q = rw (get-is, q)
-
-    pub contains-free : {s e : ℕ} → r ≡ Free s e → containedNumbers (contained.Absent e) ≡ containsOf maps (memory marks keys vs) k
-    unfolding containsOf containedSaid containedNumbers
-    contains-free q = rw (get-is, q)
-
-    pub contains-full : {e : ℕ} → r ≡ Full e → containedNumbers (contained.Absent e) ≡ containsOf maps (memory marks keys vs) k
-    unfolding containsOf containedSaid containedNumbers
-    contains-full q = rw (get-is, q)
-
-    pub contains-refused : {x : Refusal} → r ≡ Refused x → containedNumbers (contained.Refused x) ≡ containsOf maps (memory marks keys vs) k
-    unfolding containsOf containedSaid containedNumbers
-    contains-refused q = rw (get-is, q)
+    pub contains-short : (k : ℕ) → containedNumbers (contained.Refused Sizes) ≡ containsOf maps m k
+    contains-short k = contains-unsized maps m (map-short m h) k

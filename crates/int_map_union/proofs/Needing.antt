@@ -18,12 +18,13 @@ use Rattle.kinds.specs.declared.Probed.{Probed}
 use Rattle.kinds.specs.declared.Probed.the-variants as probed
 use Rattle.kinds.specs.Columns.{values}
 use Rattle.kinds.specs.Marks.{cell}
+use Rattle.kinds.specs.Calls.{sizedOf}
 use Rattle.int_slots.specs.Memory.{Cells, memory}
 use Rattle.kinds.specs.Probing.{along}
-use Rattle.int_slots.specs.Seeking.{fittingMap, seekingMap}
+use Rattle.int_slots.specs.Seeking.{probingMap}
 use Rattle.int_slots.specs.Maps.{maps}
-use Rattle.int_map_union.specs.Calls.{lackOf, lacksOf}
-use Rattle.int_slots.proofs.Seeking.{path-sought}
+use Rattle.int_map_union.specs.Calls.{slotNeeds, tableNeeds}
+use Rattle.int_slots.proofs.Seeking.{path-probed}
 
 -- Whether a probing that ended so found no key.
 abbrev missedOf : Probed → Bool
@@ -39,37 +40,37 @@ missed-along S h (miss e f) = by-bool (ltb f S) (λ t. rw t) (λ t. rw t)
 missed-along S h hurt = refl
 
 -- a slot that is not live needs nothing
-pub lack-idle : (l : Cells values) (mark key : ℕ) → (mark ≡ 1 → ⊥) → 0 ≡ lackOf l mark key
-unfolding lackOf cell weigh
-lack-idle l zero key h = refl
-lack-idle l (suc zero) key h = absurd (h refl)
-lack-idle l (suc (suc zero)) key h = refl
-lack-idle l (suc (suc (suc n))) key h = refl
+pub slot-needs-idle : (l : Cells values) (mark key : ℕ) → (mark ≡ 1 → ⊥) → 0 ≡ slotNeeds l mark key
+unfolding slotNeeds cell weigh
+slot-needs-idle l zero key h = refl
+slot-needs-idle l (suc zero) key h = absurd (h refl)
+slot-needs-idle l (suc (suc zero)) key h = refl
+slot-needs-idle l (suc (suc (suc n))) key h = refl
 
 -- a live one by what the probing of its key found in the left
-module _ (marks keys vs : List ℕ) (mark k : ℕ) {r : Probed} (f : fittingMap marks keys vs ≡ true) (one : mark ≡ 1) (p : r ≡ seekingMap marks keys vs k) where
-  lack-live : lackOf (memory marks keys vs) mark k ≡ cond (missedOf r) 1 0
-  unfolding lackOf cell weigh lacking fittingMap seekingMap
-  lack-live = rw (one, missed-along (length marks) (homeOfWord 0 (length marks) k) (path maps (memory marks keys vs) k), ← path-sought values (memory marks keys vs) k f, p)
+module _ (marks keys vs : List ℕ) (mark k : ℕ) {r : Probed} (f : sizedOf maps (memory marks keys vs) ≡ true) (one : mark ≡ 1) (p : r ≡ probingMap (memory marks keys vs) k) where
+  slot-needs-live : slotNeeds (memory marks keys vs) mark k ≡ cond (missedOf r) 1 0
+  unfolding slotNeeds cell weigh lacking sizedOf probingMap
+  slot-needs-live = rw (one, missed-along (length marks) (homeOfWord 0 (length marks) k) (path maps (memory marks keys vs) k), ← path-probed values (memory marks keys vs) k f, p)
 
-  pub lack-hit : {s e : ℕ} → r ≡ probed.Hit s e → 0 ≡ lackOf (memory marks keys vs) mark k
-  lack-hit q = rw (lack-live, q)
+  pub slot-needs-hit : {s e : ℕ} → r ≡ probed.Hit s e → 0 ≡ slotNeeds (memory marks keys vs) mark k
+  slot-needs-hit q = rw (slot-needs-live, q)
 
-  pub lack-free : {s e : ℕ} → r ≡ probed.Free s e → 1 ≡ lackOf (memory marks keys vs) mark k
-  lack-free q = rw (lack-live, q)
+  pub slot-needs-free : {s e : ℕ} → r ≡ probed.Free s e → 1 ≡ slotNeeds (memory marks keys vs) mark k
+  slot-needs-free q = rw (slot-needs-live, q)
 
-  pub lack-full : {e : ℕ} → r ≡ probed.Full e → 1 ≡ lackOf (memory marks keys vs) mark k
-  lack-full q = rw (lack-live, q)
+  pub slot-needs-full : {e : ℕ} → r ≡ probed.Full e → 1 ≡ slotNeeds (memory marks keys vs) mark k
+  slot-needs-full q = rw (slot-needs-live, q)
 
-  pub lack-refused : {x : Refusal} → r ≡ probed.Refused x → 1 ≡ lackOf (memory marks keys vs) mark k
-  lack-refused q = rw (lack-live, q)
+  pub slot-needs-refused : {x : Refusal} → r ≡ probed.Refused x → 1 ≡ slotNeeds (memory marks keys vs) mark k
+  slot-needs-refused q = rw (slot-needs-live, q)
 
 -- a slot needs one at most
-pub lack-low : (l : Cells values) (mark key : ℕ) {x : ℕ} → x ≡ lackOf l mark key → x ≤ 1
-unfolding lackOf cell weigh
-lack-low l mark key e = omega (arith, e, low mark)
+pub slot-needs-low : (l : Cells values) (mark key : ℕ) {x : ℕ} → x ≡ slotNeeds l mark key → x ≤ 1
+unfolding slotNeeds cell weigh
+slot-needs-low l mark key e = omega (arith, e, low mark)
   where
-    low : (mark : ℕ) → lackOf l mark key ≤ 1
+    low : (mark : ℕ) → slotNeeds l mark key ≤ 1
     low zero = omega arith
     low (suc zero) = by-bool (lacking maps l key) (λ t. rw t (omega arith)) (λ t. rw t (omega arith))
     low (suc (suc zero)) = omega arith
@@ -86,20 +87,20 @@ weigh-cell g a v (suc (suc (suc n))) = refl
 pub record Needing (l r : Cells values) (sum i : ℕ) : Type 0 where
   pub within : i ≤ length (r .marks)
   pub low : sum ≤ i
-  pub is : sum ≡ lacksOf l r i
+  pub is : sum ≡ tableNeeds l r i
 
 pub need-start : (l r : Cells values) → Needing l r 0 0
-unfolding lacksOf total
+unfolding tableNeeds total
 need-start l r = record { within = omega arith; low = omega arith; is = refl }
 
 module _ {l r : Cells values} {sum i : ℕ} (w : Needing l r sum i) where
-  pub need-more : {x : ℕ} → i < length (r .marks) → x ≡ lackOf l (getD (r .marks) i 0) (getD (r .keys) i 0) → Needing l r (sum + x) (i + 1)
-  unfolding lacksOf lackOf total
+  pub need-more : {x : ℕ} → i < length (r .marks) → x ≡ slotNeeds l (getD (r .marks) i 0) (getD (r .keys) i 0) → Needing l r (sum + x) (i + 1)
+  unfolding tableNeeds slotNeeds total
   need-more {x} b e = record {
     within = omega arith;
-    low = omega (arith, lack-low l (getD (r .marks) i 0) (getD (r .keys) i 0) e);
+    low = omega (arith, slot-needs-low l (getD (r .marks) i 0) (getD (r .keys) i 0) e);
     is = rw (add-one, weigh-cell (λ k. cond (lacking maps l k) 1 0) (getD (r .keys) i 0) (getD (r .words) i 0) (getD (r .marks) i 0), ← e, w .is);
   }
 
-  pub need-end : length (r .marks) ≤ i → sum ≡ lacksOf l r (length (r .marks))
+  pub need-end : length (r .marks) ≤ i → sum ≡ tableNeeds l r (length (r .marks))
   need-end b = let e : length (r .marks) ≡ i = omega arith in rw e (w .is)

@@ -18,12 +18,13 @@ use Rattle.kinds.specs.declared.Probed.{Probed}
 use Rattle.kinds.specs.declared.Probed.the-variants as probed
 use Rattle.kinds.specs.Columns.{values}
 use Rattle.kinds.specs.Marks.{cell}
+use Rattle.kinds.specs.Calls.{sizedOf}
 use Rattle.int_slots.specs.Memory.{Cells, memory}
 use Rattle.kinds.specs.Probing.{along}
-use Rattle.int_slots.specs.Seeking.{fittingMap, seekingMap}
+use Rattle.int_slots.specs.Seeking.{probingMap}
 use Rattle.int_slots.specs.Maps.{maps}
 use Rattle.int_map_union.specs.Calls.{slotStored, allStored}
-use Rattle.int_slots.proofs.Seeking.{path-sought}
+use Rattle.int_slots.proofs.Seeking.{path-probed}
 
 -- What the rule leaves where the probing of the key ended so.
 abbrev ruleOf : Cells values → ℕ → ℕ → Probed → Cells values
@@ -40,22 +41,22 @@ module _ (m : Cells values) (k v : ℕ) where
   rule-along hurt = refl
 
 -- the rule with no test, by what the probing found
-module _ (marks keys vs : List ℕ) (k v : ℕ) {r : Probed} (f : fittingMap marks keys vs ≡ true) (p : r ≡ seekingMap marks keys vs k) where
-  rule-sought : rule maps (memory marks keys vs) k v ≡ ruleOf (memory marks keys vs) k v r
-  unfolding rule fittingMap seekingMap
-  rule-sought = rule-along (memory marks keys vs) k v (path maps (memory marks keys vs) k) ∙ ap (ruleOf (memory marks keys vs) k v) (sym (p ∙ path-sought values (memory marks keys vs) k f))
+module _ (marks keys vs : List ℕ) (k v : ℕ) {r : Probed} (f : sizedOf maps (memory marks keys vs) ≡ true) (p : r ≡ probingMap (memory marks keys vs) k) where
+  rule-found : rule maps (memory marks keys vs) k v ≡ ruleOf (memory marks keys vs) k v r
+  unfolding rule sizedOf probingMap
+  rule-found = rule-along (memory marks keys vs) k v (path maps (memory marks keys vs) k) ∙ ap (ruleOf (memory marks keys vs) k v) (sym (p ∙ path-probed values (memory marks keys vs) k f))
 
   pub store-hit : {s e : ℕ} → r ≡ probed.Hit s e → memory marks keys (set vs s v) ≡ rule maps (memory marks keys vs) k v
-  store-hit q = rw (rule-sought, q)
+  store-hit q = rw (rule-found, q)
 
   pub store-free : {s e : ℕ} → r ≡ probed.Free s e → memory (set marks s 1) (set keys s k) (set vs s v) ≡ rule maps (memory marks keys vs) k v
-  store-free q = rw (rule-sought, q)
+  store-free q = rw (rule-found, q)
 
   pub store-full : {e : ℕ} → r ≡ probed.Full e → memory marks keys vs ≡ rule maps (memory marks keys vs) k v
-  store-full q = rw (rule-sought, q)
+  store-full q = rw (rule-found, q)
 
   pub store-refused : {x : Refusal} → r ≡ probed.Refused x → memory marks keys vs ≡ rule maps (memory marks keys vs) k v
-  store-refused q = rw (rule-sought, q)
+  store-refused q = rw (rule-found, q)
 
 module _ (l : Cells values) (mark k v : ℕ) where
   -- a live slot's pair goes in by the rule
@@ -99,8 +100,8 @@ store-start l r = record { within = omega arith; marks-long = refl; keys-long = 
 
 module _ {l r m : Cells values} {i : ℕ} (w : Storing l r m i) where
   -- the sizes stay right
-  pub store-fit : fittingMap (l .marks) (l .keys) (l .words) ≡ true → fittingMap (m .marks) (m .keys) (m .words) ≡ true
-  unfolding fittingMap
+  pub store-fit : sizedOf maps l ≡ true → sizedOf maps m ≡ true
+  unfolding sizedOf
   store-fit f = rw (w .marks-long, w .keys-long, w .words-long) f
 
   -- one slot more: its pair comes last

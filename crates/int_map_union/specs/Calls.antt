@@ -15,12 +15,12 @@ unfoldable pub planOf : Cells values → Cells values → Numbers
 planOf l r = doneSaid (union maps l r)
 
 -- What a slot of the right with this mark and key needs: a slot where it is live and the left lacks its key.
-unfoldable pub lackOf : Cells values → ℕ → ℕ → ℕ
-lackOf l mark key = weigh (λ k. cond (lacking maps l k) 1 0) (cell mark key (tt {0}))
+unfoldable pub slotNeeds : Cells values → ℕ → ℕ → ℕ
+slotNeeds l mark key = weigh (λ k. cond (lacking maps l k) 1 0) (cell mark key (tt {0}))
 
 -- What the first n slots of the right need.
-unfoldable pub lacksOf : Cells values → Cells values → ℕ → ℕ
-lacksOf l r n = total (λ k. cond (lacking maps l k) 1 0) (maps .slots r) n
+unfoldable pub tableNeeds : Cells values → Cells values → ℕ → ℕ
+tableNeeds l r n = total (λ k. cond (lacking maps l k) 1 0) (maps .slots r) n
 
 -- The insert rule for the pair of a slot with this mark, key and value.
 unfoldable pub slotStored : Cells values → ℕ → ℕ → ℕ → Cells values

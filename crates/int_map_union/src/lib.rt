@@ -4,23 +4,23 @@ ghost use mathlib.Core.Bool.{true};
 ghost use lib.ListN.{length};
 ghost use Rattle.model.specs.Calls.{rule};
 ghost use Rattle.answers.specs.Numbers.{outcomeNumbers};
-ghost use Rattle.int_slots.specs.Seeking.{fittingMap};
 ghost use Rattle.int_slots.specs.Maps.{maps, before, after};
+ghost use Rattle.int_slots.specs.Memory.{memory};
 ghost use Rattle.kinds.specs.Told.{told};
-ghost use Rattle.int_map_union.specs.Calls.{planOf, lackOf, lacksOf, slotStored, allStored};
-ghost use Rattle.kinds.specs.Calls.{unionOf};
+ghost use Rattle.int_map_union.specs.Calls.{planOf, slotNeeds, tableNeeds, slotStored, allStored};
+ghost use Rattle.kinds.specs.Calls.{sizedOf, unionOf};
 use answers::Outcome;
 use answers::Refusal;
 use kinds::Probed;
 use kinds::Scanned;
 
 // What a slot of the right with this mark and key needs of the left: one slot where it is live and its key is absent.
-fn lack(marks: &[u8], keys: &[u64], values: &[u64], mark: u8, key: u64) -> usize
-    requires { ⌜ fittingMap (now marks) (now keys) (now values) ≡ true ⌝ }
-    ensures { λ r. ⌜ r ≡ lackOf (before marks keys values) mark key ⌝ }
+fn slot_needs(marks: &[u8], keys: &[u64], values: &[u64], mark: u8, key: u64) -> usize
+    requires { ⌜ sizedOf maps (memory (now marks) (now keys) (now values)) ≡ true ⌝ }
+    ensures { λ r. ⌜ r ≡ slotNeeds (before marks keys values) mark key ⌝ }
 {
     if mark == 1 {
-        let seen = int_slots::seek(marks, keys, values, key);
+        let seen = int_slots::map_probe(marks, keys, values, key);
         match seen {
             Probed::Hit(_, _) => return 0,
             Probed::Free(_, _) => return 1,
@@ -32,7 +32,7 @@ fn lack(marks: &[u8], keys: &[u64], values: &[u64], mark: u8, key: u64) -> usize
 }
 
 // What the right needs of the left: a slot for each live slot whose key is absent.
-fn lacks(
+fn table_needs(
     marks: &[u8],
     keys: &[u64],
     values: &[u64],
@@ -40,13 +40,13 @@ fn lacks(
     right_keys: &[u64],
     right_values: &[u64],
 ) -> usize
-    requires { ⌜ (fittingMap (now marks) (now keys) (now values) ≡ true) × (length (now «right_keys») ≡ length (now «right_marks»)) ⌝ }
-    ensures { λ r. ⌜ r ≡ lacksOf (before marks keys values) (before «right_marks» «right_keys» «right_values») (length (now («right_marks» .entry))) ⌝ }
+    requires { ⌜ (sizedOf maps (memory (now marks) (now keys) (now values)) ≡ true) × (length (now «right_keys») ≡ length (now «right_marks»)) ⌝ }
+    ensures { λ r. ⌜ r ≡ tableNeeds (before marks keys values) (before «right_marks» «right_keys» «right_values») (length (now («right_marks» .entry))) ⌝ }
 {
     let mut sum = 0;
     let mut i = 0;
     while i < right_marks.len() {
-        sum += lack(marks, keys, values, right_marks[i], right_keys[i]);
+        sum += slot_needs(marks, keys, values, right_marks[i], right_keys[i]);
         i += 1;
     }
     sum
@@ -61,7 +61,7 @@ fn room(
     right_keys: &[u64],
     right_values: &[u64],
 ) -> Outcome
-    requires { ⌜ (fittingMap (now marks) (now keys) (now values) ≡ true) × (fittingMap (now «right_marks») (now «right_keys») (now «right_values») ≡ true) ⌝ }
+    requires { ⌜ (sizedOf maps (memory (now marks) (now keys) (now values)) ≡ true) × (sizedOf maps (memory (now «right_marks») (now «right_keys») (now «right_values»)) ≡ true) ⌝ }
     ensures { λ r. ⌜ outcomeNumbers r ≡ planOf (before marks keys values) (before «right_marks» «right_keys» «right_values») ⌝ }
 {
     let seen = int_slots::scan(marks);
@@ -72,7 +72,9 @@ fn room(
     let Scanned::Live(_) = other else {
         return Outcome::Refused(Refusal::Damaged);
     };
-    if lacks(marks, keys, values, right_marks, right_keys, right_values) <= marks.len() - live {
+    if table_needs(marks, keys, values, right_marks, right_keys, right_values)
+        <= marks.len() - live
+    {
         return Outcome::Done;
     }
     Outcome::Refused(Refusal::NoSlot)
@@ -100,10 +102,10 @@ fn plan(
 
 // The insert rule with no test: the key's value changes in its slot, or the first free slot of its path takes the key.
 fn store(marks: &mut [u8], keys: &mut [u64], values: &mut [u64], key: u64, value: u64)
-    requires { ⌜ fittingMap (now marks) (now keys) (now values) ≡ true ⌝ }
+    requires { ⌜ sizedOf maps (memory (now marks) (now keys) (now values)) ≡ true ⌝ }
     ensures { λ r. ⌜ after marks keys values ≡ rule maps (before marks keys values) key value ⌝ }
 {
-    let seen = int_slots::seek(marks, keys, values, key);
+    let seen = int_slots::map_probe(marks, keys, values, key);
     match seen {
         Probed::Hit(slot, _) => {
             values[slot] = value;
@@ -129,7 +131,7 @@ fn store_slot(
     key: u64,
     value: u64,
 )
-    requires { ⌜ fittingMap (now marks) (now keys) (now values) ≡ true ⌝ }
+    requires { ⌜ sizedOf maps (memory (now marks) (now keys) (now values)) ≡ true ⌝ }
     ensures { λ r. ⌜ after marks keys values ≡ slotStored (before marks keys values) mark key value ⌝ }
 {
     if mark == 1 {
@@ -147,7 +149,7 @@ fn store_all(
     right_keys: &[u64],
     right_values: &[u64],
 )
-    requires { ⌜ (fittingMap (now marks) (now keys) (now values) ≡ true) × (length (now «right_keys») ≡ length (now «right_marks»)) × (length (now «right_values») ≡ length (now «right_marks»)) ⌝ }
+    requires { ⌜ (sizedOf maps (memory (now marks) (now keys) (now values)) ≡ true) × (length (now «right_keys») ≡ length (now «right_marks»)) × (length (now «right_values») ≡ length (now «right_marks»)) ⌝ }
     ensures { λ r. ⌜ after marks keys values ≡ allStored (before marks keys values) (before «right_marks» «right_keys» «right_values») (length (now («right_marks» .entry))) ⌝ }
 {
     let mut i = 0;

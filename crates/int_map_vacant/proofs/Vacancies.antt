@@ -25,14 +25,14 @@ use Rattle.kinds.specs.declared.Probed.the-variants as probed
 use Rattle.kinds.specs.Columns.{values}
 use Rattle.int_slots.specs.Memory.{Cells, memory}
 use Rattle.kinds.specs.Probing.{along}
-use Rattle.int_slots.specs.Seeking.{seeking, seekingMap}
+use Rattle.int_slots.specs.Seeking.{probingBeside, probingMap}
 use Rattle.kinds.proofs.Bridge.{spotOf}
-use Rattle.int_slots.proofs.Seeking.{entry-seeking, path-sought, free-inside}
-use Rattle.int_map_vacant.specs.declared.Standing.the-variants as standing
+use Rattle.int_slots.proofs.Seeking.{entry-probed, path-probed, free-inside}
+use Rattle.int_map_vacant.specs.declared.InSlot.the-variants as in-slot
 use Rattle.int_slots.specs.Maps.{maps}
 use Rattle.kinds.specs.Told.{told}
-use Rattle.int_map_vacant.specs.Numbers.{standingNumbers}
-use Rattle.int_map_vacant.specs.Calls.{freshOf}
+use Rattle.int_map_vacant.specs.Numbers.{inSlotNumbers}
+use Rattle.int_slots.specs.Kinds.{vacancyOf}
 use Rattle.kinds.specs.Calls.{standingOf}
 
 -- What a vacant handle of slot s is worth where the probing ended so.
@@ -61,38 +61,38 @@ module _ (m : Cells values) (s k : ℕ) where
   entry-one e = rw e
 
   -- a vacant handle by what the probing found
-  pub vacancy-seeking : vacancy maps m s k ≡ goodOf s (seeking values m k)
+  pub vacancy-probed : vacancy maps m s k ≡ goodOf s (probingBeside values m k)
   unfolding vacancy need pass
-  vacancy-seeking = by-bool (maps .sized m)
-      (λ e. rw (e, path-sought values m k e) (good-along (path maps m k)))
-      (λ e. rw e (unsized-good (seeking values m k) (entry-one e ∙ entry-seeking values m k)))
+  vacancy-probed = by-bool (maps .sized m)
+      (λ e. rw (e, path-probed values m k e) (good-along (path maps m k)))
+      (λ e. rw e (unsized-good (probingBeside values m k) (entry-one e ∙ entry-probed values m k)))
 
-module _ (marks keys vs : List ℕ) (k : ℕ) {r : Probed} (p : r ≡ seekingMap marks keys vs k) where
+module _ (marks keys vs : List ℕ) (k : ℕ) {r : Probed} (p : r ≡ probingMap (memory marks keys vs) k) where
   -- what a vacant handle is worth
   module _ (s : ℕ) where
-    sought-vacancy : vacancy maps (memory marks keys vs) s k ≡ goodOf s r
-    unfolding seekingMap
-    sought-vacancy = rw p (vacancy-seeking (memory marks keys vs) s k)
+    vacancy-found : vacancy maps (memory marks keys vs) s k ≡ goodOf s r
+    unfolding probingMap
+    vacancy-found = rw p (vacancy-probed (memory marks keys vs) s k)
 
-    pub fresh-free : {f e : ℕ} → r ≡ probed.Free f e → s ≡ f → outcomeNumbers outcome.Done ≡ freshOf (memory marks keys vs) s k
-    unfolding freshOf outcomeNumbers doneSaid need
-    fresh-free {f} q l = rw (sought-vacancy, q, eq-eqb s f l)
+    pub vacancy-free : {f e : ℕ} → r ≡ probed.Free f e → s ≡ f → outcomeNumbers outcome.Done ≡ vacancyOf (memory marks keys vs) s k
+    unfolding vacancyOf outcomeNumbers doneSaid need
+    vacancy-free {f} q l = rw (vacancy-found, q, eq-eqb s f l)
 
-    pub fresh-other : {f e : ℕ} → r ≡ probed.Free f e → (s ≡ f → ⊥) → outcomeNumbers (outcome.Refused BadHandle) ≡ freshOf (memory marks keys vs) s k
-    unfolding freshOf outcomeNumbers doneSaid need
-    fresh-other {f} q l = rw (sought-vacancy, q, ne-eqb s f l)
+    pub vacancy-other : {f e : ℕ} → r ≡ probed.Free f e → (s ≡ f → ⊥) → outcomeNumbers (outcome.Refused BadHandle) ≡ vacancyOf (memory marks keys vs) s k
+    unfolding vacancyOf outcomeNumbers doneSaid need
+    vacancy-other {f} q l = rw (vacancy-found, q, ne-eqb s f l)
 
-    pub fresh-hit : {f e : ℕ} → r ≡ probed.Hit f e → outcomeNumbers (outcome.Refused BadHandle) ≡ freshOf (memory marks keys vs) s k
-    unfolding freshOf outcomeNumbers doneSaid
-    fresh-hit q = rw (sought-vacancy, q)
+    pub vacancy-hit : {f e : ℕ} → r ≡ probed.Hit f e → outcomeNumbers (outcome.Refused BadHandle) ≡ vacancyOf (memory marks keys vs) s k
+    unfolding vacancyOf outcomeNumbers doneSaid
+    vacancy-hit q = rw (vacancy-found, q)
 
-    pub fresh-full : {e : ℕ} → r ≡ probed.Full e → outcomeNumbers (outcome.Refused BadHandle) ≡ freshOf (memory marks keys vs) s k
-    unfolding freshOf outcomeNumbers doneSaid
-    fresh-full q = rw (sought-vacancy, q)
+    pub vacancy-full : {e : ℕ} → r ≡ probed.Full e → outcomeNumbers (outcome.Refused BadHandle) ≡ vacancyOf (memory marks keys vs) s k
+    unfolding vacancyOf outcomeNumbers doneSaid
+    vacancy-full q = rw (vacancy-found, q)
 
-    pub fresh-refused : {x : Refusal} → r ≡ probed.Refused x → outcomeNumbers (outcome.Refused x) ≡ freshOf (memory marks keys vs) s k
-    unfolding freshOf outcomeNumbers doneSaid
-    fresh-refused q = rw (sought-vacancy, q)
+    pub vacancy-refused : {x : Refusal} → r ≡ probed.Refused x → outcomeNumbers (outcome.Refused x) ≡ vacancyOf (memory marks keys vs) s k
+    unfolding vacancyOf outcomeNumbers doneSaid
+    vacancy-refused q = rw (vacancy-found, q)
 
 -- what the answer says of the theory's
 done-ok : {a : Outcome} (x : Or (Unit {0})) → outcomeNumbers a ≡ doneSaid x → a ≡ outcome.Done → x ≡ ok tt
@@ -114,25 +114,25 @@ good-free s (probed.Full e) q = clash cc
 good-free s (probed.Refused r) q = clash cc
 
 -- where the test of a vacant handle answered a
-module _ (marks keys vs : List ℕ) (s k : ℕ) {a : Outcome} (p : outcomeNumbers a ≡ freshOf (memory marks keys vs) s k) where
+module _ (marks keys vs : List ℕ) (s k : ℕ) {a : Outcome} (p : outcomeNumbers a ≡ vacancyOf (memory marks keys vs) s k) where
   good : a ≡ outcome.Done → vacancy maps (memory marks keys vs) s k ≡ ok tt
-  unfolding freshOf
+  unfolding vacancyOf
   good q = done-ok (vacancy maps (memory marks keys vs) s k) p q
 
   bad : {e : Refusal} → a ≡ outcome.Refused e → vacancy maps (memory marks keys vs) s k ≡ no (numberOf e)
-  unfolding freshOf
+  unfolding vacancyOf
   bad q = done-no (vacancy maps (memory marks keys vs) s k) p q
 
-  pub fresh-slot : a ≡ outcome.Done → (s < length marks) × (s < length keys) × (s < length vs)
-  unfolding seekingMap
-  fresh-slot q =
-      let (e, f) = good-free s (seeking values (memory marks keys vs) k) (sym (vacancy-seeking (memory marks keys vs) s k) ∙ good q) in
-      free-inside marks keys vs k refl f
+  pub vacancy-slot : a ≡ outcome.Done → (s < length marks) × (s < length keys) × (s < length vs)
+  unfolding probingMap
+  vacancy-slot q =
+      let (e, f) = good-free s (probingBeside values (memory marks keys vs) k) (sym (vacancy-probed (memory marks keys vs) s k) ∙ good q) in
+      free-inside (memory marks keys vs) k refl f
 
-  pub insert-done : (v : ℕ) → a ≡ outcome.Done → told (standingNumbers (standing.Now (record { slot = s }) v)) (memory (set marks s 1) (set keys s k) (set vs s v)) ≡ standingOf maps (memory marks keys vs) s k v
-  unfolding standingOf vacant-insert after-fill give acted standingNumbers standingSaid
+  pub insert-done : (v : ℕ) → a ≡ outcome.Done → told (inSlotNumbers (in-slot.Now (record { slot = s }) v)) (memory (set marks s 1) (set keys s k) (set vs s v)) ≡ standingOf maps (memory marks keys vs) s k v
+  unfolding standingOf vacant-insert after-fill give acted inSlotNumbers standingSaid
   insert-done v q = rw (good q)
 
-  pub insert-refused : {e : Refusal} (v : ℕ) → a ≡ outcome.Refused e → told (standingNumbers (standing.Refused e)) (memory marks keys vs) ≡ standingOf maps (memory marks keys vs) s k v
-  unfolding standingOf vacant-insert after-fill give acted standingNumbers standingSaid
+  pub insert-refused : {e : Refusal} (v : ℕ) → a ≡ outcome.Refused e → told (inSlotNumbers (in-slot.Refused e)) (memory marks keys vs) ≡ standingOf maps (memory marks keys vs) s k v
+  unfolding standingOf vacant-insert after-fill give acted inSlotNumbers standingSaid
   insert-refused v q = rw (bad q)

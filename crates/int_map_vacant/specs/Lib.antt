@@ -1,3 +1,2 @@
 -- The definitions of the integer map's vacant handles.
 pub mod Numbers
-pub mod Calls

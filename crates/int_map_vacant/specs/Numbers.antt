@@ -2,10 +2,10 @@
 use Rattle.answers.specs.declared.Numbers.{Numbers}
 use Rattle.answers.specs.Numbers.{refusalNumbers}
 use Rattle.answers.specs.Said.{saidCase}
-use Rattle.int_map_vacant.specs.declared.Standing.{Standing}
-use Rattle.int_map_vacant.specs.declared.Standing.the-variants as standing
+use Rattle.int_map_vacant.specs.declared.InSlot.{InSlot}
+use Rattle.int_map_vacant.specs.declared.InSlot.the-variants as in-slot
 
 -- Of a vacant handle's insert, or_insert and insert_entry: case 19, the value now in the slot, and the handle's slot.
-unfoldable pub standingNumbers : Standing → Numbers
-standingNumbers (standing.Now h v) = saidCase 19 0 v (h .slot) 0
-standingNumbers (standing.Refused r) = refusalNumbers r
+unfoldable pub inSlotNumbers : InSlot → Numbers
+inSlotNumbers (in-slot.Now h v) = saidCase 19 0 v (h .slot) 0
+inSlotNumbers (in-slot.Refused r) = refusalNumbers r

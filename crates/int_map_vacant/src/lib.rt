@@ -2,8 +2,8 @@
 ghost use mathlib.Core.Path.{_≡_};
 ghost use Rattle.answers.specs.Numbers.{outcomeNumbers};
 ghost use Rattle.kinds.specs.Told.{told};
-ghost use Rattle.int_map_vacant.specs.Numbers.{standingNumbers};
-ghost use Rattle.int_map_vacant.specs.Calls.{freshOf};
+ghost use Rattle.int_map_vacant.specs.Numbers.{inSlotNumbers};
+ghost use Rattle.int_slots.specs.Kinds.{vacancyOf};
 ghost use Rattle.kinds.specs.Calls.{standingOf};
 ghost use Rattle.int_slots.specs.Maps.{maps, before, after};
 use answers::Numbers;
@@ -20,16 +20,16 @@ pub struct Vacant {
 }
 
 // The answer of the calls that leave the key in a slot: its handle, and the value now in the slot.
-pub enum Standing {
+pub enum InSlot {
     Now(Occupied, u64),
     Refused(Refusal),
 }
 
 // Whether a vacant handle of this slot is good for the key: insert would use that very slot.
-fn fresh_at(marks: &[u8], keys: &[u64], values: &[u64], slot: usize, key: u64) -> Outcome
-    ensures { λ r. ⌜ outcomeNumbers r ≡ freshOf (before marks keys values) slot key ⌝ }
+fn vacancy_at(marks: &[u8], keys: &[u64], values: &[u64], slot: usize, key: u64) -> Outcome
+    ensures { λ r. ⌜ outcomeNumbers r ≡ vacancyOf (before marks keys values) slot key ⌝ }
 {
-    let seen = int_slots::seek(marks, keys, values, key);
+    let seen = int_slots::map_probe(marks, keys, values, key);
     match seen {
         Probed::Free(free, _) => {
             if slot == free {
@@ -52,29 +52,29 @@ impl Vacant {
         values: &mut [u64],
         key: u64,
         value: u64,
-    ) -> Standing
-        ensures { λ r. ⌜ told (standingNumbers r) (after marks keys values) ≡ standingOf maps (before marks keys values) (self .slot) key value ⌝ }
+    ) -> InSlot
+        ensures { λ r. ⌜ told (inSlotNumbers r) (after marks keys values) ≡ standingOf maps (before marks keys values) (self .slot) key value ⌝ }
     {
         let slot = self.slot;
-        let worth = fresh_at(marks, keys, values, slot, key);
+        let worth = vacancy_at(marks, keys, values, slot, key);
         match worth {
             Outcome::Done => {
                 marks[slot] = 1;
                 keys[slot] = key;
                 values[slot] = value;
-                Standing::Now(Occupied { slot }, value)
+                InSlot::Now(Occupied { slot }, value)
             }
-            Outcome::Refused(r) => Standing::Refused(r),
+            Outcome::Refused(r) => InSlot::Refused(r),
         }
     }
 }
 
 // The numbers of the calls that leave the key in a slot.
-pub fn standing_numbers(a: Standing) -> Numbers
-    ensures { λ n. ⌜ n ≡ standingNumbers a ⌝ }
+pub fn in_slot_numbers(a: InSlot) -> Numbers
+    ensures { λ n. ⌜ n ≡ inSlotNumbers a ⌝ }
 {
     match a {
-        Standing::Now(handle, value) => case_numbers(19, 0, value, handle.slot, 0),
-        Standing::Refused(r) => refusal_numbers(r),
+        InSlot::Now(handle, value) => case_numbers(19, 0, value, handle.slot, 0),
+        InSlot::Refused(r) => refusal_numbers(r),
     }
 }

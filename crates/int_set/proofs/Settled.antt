@@ -6,8 +6,8 @@ use Rattle.kinds.specs.Columns.{nothing}
 use Rattle.kinds.specs.Told.{SettledWith}
 use Rattle.kinds.proofs.Settled.{settled-with}
 use Rattle.int_slots.specs.Memory.{Cells}
-use Rattle.int_set.specs.Calls.{insertOf}
-use Rattle.kinds.specs.Calls.{makeOf, droppedOf}
+use Rattle.int_slots.specs.Kinds.{setInsertOf}
+use Rattle.kinds.specs.Calls.{makeOf, droppedOf, copyOf}
 use Rattle.int_slots.specs.Sets.{sets}
 
 module _ (m : Cells nothing) where
@@ -20,9 +20,13 @@ module _ (m : Cells nothing) where
   clear-settled = settled-with outcomeNumbers-injective
 
   -- `insert`.
-  pub insert-settled : (k : ℕ) → SettledWith addedNumbers (insertOf m k)
+  pub insert-settled : (k : ℕ) → SettledWith addedNumbers (setInsertOf m k)
   insert-settled k = settled-with addedNumbers-injective
 
   -- `remove`.
   pub remove-settled : (k : ℕ) → SettledWith droppedNumbers (droppedOf sets m k)
   remove-settled k = settled-with droppedNumbers-injective
+
+  -- `copy`.
+  pub copy-settled : (from : Cells nothing) → SettledWith outcomeNumbers (copyOf sets m from)
+  copy-settled from = settled-with outcomeNumbers-injective

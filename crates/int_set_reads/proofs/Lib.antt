@@ -1,3 +1,2 @@
 -- The laws of the reading calls of integer sets.
-pub mod Laws
 pub mod Settled

@@ -6,7 +6,7 @@ use Rattle.kinds.specs.Columns.{nothing}
 use Rattle.kinds.specs.Told.{Settled}
 use Rattle.kinds.proofs.Settled.{settled}
 use Rattle.int_slots.specs.Memory.{Cells}
-use Rattle.int_set_reads.specs.Calls.{getOf}
+use Rattle.int_slots.specs.Kinds.{setGetOf}
 use Rattle.kinds.specs.Calls.{capacityOf, lenOf, isEmptyOf, reserveOf, containsOf}
 use Rattle.int_slots.specs.Sets.{sets}
 
@@ -28,7 +28,7 @@ module _ (m : Cells nothing) where
   reserve-settled asked = settled reservedNumbers-injective
 
   -- `get`.
-  pub get-settled : (k : ℕ) → Settled memberNumbers (getOf m k)
+  pub get-settled : (k : ℕ) → Settled memberNumbers (setGetOf m k)
   get-settled k = settled memberNumbers-injective
 
   -- `contains`.

@@ -2,7 +2,7 @@
 ghost use mathlib.Core.Path.{_≡_};
 ghost use Rattle.answers.specs.Numbers.{countedNumbers, emptinessNumbers, reservedNumbers, memberNumbers, containedNumbers};
 ghost use Rattle.int_slots.specs.Sets.{sets, before};
-ghost use Rattle.int_set_reads.specs.Calls.{getOf};
+ghost use Rattle.int_slots.specs.Kinds.{setGetOf};
 ghost use Rattle.kinds.specs.Calls.{capacityOf, lenOf, isEmptyOf, reserveOf, containsOf};
 use answers::Contained;
 use answers::Counted;
@@ -71,7 +71,7 @@ pub fn reserve(marks: &[u8], keys: &[u64], asked: u64) -> Reserved
 
 // The key where it is there, with its slot and the examined number.
 pub fn get(marks: &[u8], keys: &[u64], key: u64) -> Member
-    ensures { λ r. ⌜ memberNumbers r ≡ getOf (before marks keys) key ⌝ }
+    ensures { λ r. ⌜ memberNumbers r ≡ setGetOf (before marks keys) key ⌝ }
 {
     let seen = int_slots::probe(marks, keys, key);
     match seen {

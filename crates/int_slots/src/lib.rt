@@ -7,7 +7,9 @@ ghost use Rattle.kinds.specs.Probing.{lookOf, along};
 ghost use Rattle.int_slots.specs.Probing.{slotsIn, probing};
 ghost use Rattle.int_slots.specs.Scanning.{scanning, nexting};
 ghost use Rattle.int_slots.specs.Memory.{integers, fitting};
-ghost use Rattle.int_slots.specs.Seeking.{fittingMap, seekingMap};
+ghost use Rattle.int_slots.specs.Seeking.{probingMap};
+ghost use Rattle.int_slots.specs.Maps.{maps, before};
+ghost use Rattle.kinds.specs.Calls.{sizedOf};
 use answers::Refusal;
 use digest::slot_of_word;
 use digest::slots_fit;
@@ -126,7 +128,7 @@ pub fn next_live(marks: &[u8], at: usize, end: usize) -> Next
 
 // Whether the three arrays of a map are of one length that a table may have.
 pub fn map_fits(marks: &[u8], keys: &[u64], values: &[u64]) -> bool
-    ensures { λ r. ⌜ r ≡ fittingMap (now (marks .entry)) (now (keys .entry)) (now (values .entry)) ⌝ }
+    ensures { λ r. ⌜ r ≡ sizedOf maps (before marks keys values) ⌝ }
 {
     if marks.len() == values.len() {
         if marks.len() == keys.len() {
@@ -137,8 +139,8 @@ pub fn map_fits(marks: &[u8], keys: &[u64], values: &[u64]) -> bool
 }
 
 // The probing of a key in a map: refusal 1, or what its path found.
-pub fn seek(marks: &[u8], keys: &[u64], values: &[u64], key: u64) -> Probed
-    ensures { λ r. ⌜ r ≡ seekingMap (now (marks .entry)) (now (keys .entry)) (now (values .entry)) key ⌝ }
+pub fn map_probe(marks: &[u8], keys: &[u64], values: &[u64], key: u64) -> Probed
+    ensures { λ r. ⌜ r ≡ probingMap (before marks keys values) key ⌝ }
 {
     if marks.len() == values.len() {
         return probe(marks, keys, key);

@@ -2,7 +2,7 @@
 ghost use mathlib.Core.Path.{_≡_};
 ghost use lib.ListN.{length};
 ghost use Rattle.kinds.specs.Told.{told};
-ghost use Rattle.int_map_occupied.specs.Calls.{removeEntryOf};
+ghost use Rattle.int_slots.specs.Kinds.{removeEntryOf};
 ghost use Rattle.kinds.specs.Calls.{heldOf, setOf, takenOf, standingOf, entryOf, orInsertOf, insertEntryOf};
 ghost use Rattle.int_slots.specs.Maps.{maps, before, after};
 ghost use Rattle.kinds.specs.Handing.{handleAs};
@@ -15,7 +15,7 @@ use int_map_occupied::swapped_numbers;
 use int_map_occupied::taken_entry_numbers;
 use int_map_occupied::taken_numbers;
 use int_map_vacant::Vacant;
-use int_map_vacant::standing_numbers;
+use int_map_vacant::in_slot_numbers;
 
 // Where a key stands or would go.
 #[no_mangle]
@@ -114,7 +114,7 @@ pub extern "C" fn moss_int_map_vacant_insert(
     let handle = Vacant {
         slot: slot as usize,
     };
-    standing_numbers(handle.insert(marks, keys, values, key, value))
+    in_slot_numbers(handle.insert(marks, keys, values, key, value))
 }
 
 // Keeps a present value, else puts the default in.
@@ -131,7 +131,7 @@ pub extern "C" fn moss_int_map_or_insert(
     ensures { λ r. ⌜ told r (after marks keys values) ≡ orInsertOf maps (before marks keys values) (handleAs (length (now (marks .entry))) case slot) key default ⌝ }
 {
     let handle = entry_by_case(case, slot);
-    standing_numbers(handle.or_insert(marks, keys, values, key, default))
+    in_slot_numbers(handle.or_insert(marks, keys, values, key, default))
 }
 
 // Replaces a present value, else puts the value in.
@@ -148,5 +148,5 @@ pub extern "C" fn moss_int_map_insert_entry(
     ensures { λ r. ⌜ told r (after marks keys values) ≡ insertEntryOf maps (before marks keys values) (handleAs (length (now (marks .entry))) case slot) key value ⌝ }
 {
     let handle = entry_by_case(case, slot);
-    standing_numbers(handle.insert_entry(marks, keys, values, key, value))
+    in_slot_numbers(handle.insert_entry(marks, keys, values, key, value))
 }

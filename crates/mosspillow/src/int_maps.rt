@@ -1,8 +1,8 @@
-// The integer map for C: each call as int_map, int_map_reads, int_map_copy, int_map_union and int_map_walk have it, its answer as numbers.
+// The integer map for C: each call as int_map, int_map_reads, int_map_union and int_map_walk have it, its answer as numbers.
 ghost use mathlib.Core.Path.{_≡_};
 ghost use Rattle.kinds.specs.Told.{told};
 ghost use Rattle.kinds.specs.Moved.{movedOn};
-ghost use Rattle.int_map.specs.Calls.{insertOf};
+ghost use Rattle.int_slots.specs.Kinds.{insertOf};
 ghost use Rattle.kinds.specs.Calls.{makeOf, removeOf, capacityOf, lenOf, isEmptyOf, reserveOf, getOf, containsOf, copyOf, unionOf};
 ghost use Rattle.int_slots.specs.Maps.{maps, before, after};
 ghost use Rattle.int_map_walk.specs.Calls.{stepOf};
@@ -139,7 +139,7 @@ pub extern "C" fn moss_int_map_copy(
 ) -> Numbers
     ensures { λ r. ⌜ told r (after «to_marks» «to_keys» «to_values») ≡ copyOf maps (before «to_marks» «to_keys» «to_values») (before marks keys values) ⌝ }
 {
-    outcome_numbers(int_map_copy::copy(to_marks, to_keys, to_values, marks, keys, values))
+    outcome_numbers(int_map::copy(to_marks, to_keys, to_values, marks, keys, values))
 }
 
 // Puts the right's pairs into the left, all or none.

@@ -1,11 +1,10 @@
-// The integer set for C: each call as int_set, int_set_reads, int_set_copy and int_set_walk have it, its answer as numbers.
+// The integer set for C: each call as int_set, int_set_reads and int_set_walk have it, its answer as numbers.
 ghost use mathlib.Core.Path.{_≡_};
 ghost use Rattle.kinds.specs.Told.{told};
 ghost use Rattle.kinds.specs.Moved.{movedOn};
 ghost use Rattle.int_slots.specs.Sets.{sets, before, after};
-ghost use Rattle.int_set.specs.Calls.{insertOf};
 ghost use Rattle.kinds.specs.Calls.{makeOf, droppedOf, capacityOf, lenOf, isEmptyOf, reserveOf, containsOf, copyOf};
-ghost use Rattle.int_set_reads.specs.Calls.{getOf};
+ghost use Rattle.int_slots.specs.Kinds.{setInsertOf, setGetOf};
 ghost use Rattle.int_set_walk.specs.Calls.{stepOf};
 use answers::Numbers;
 use answers::added_numbers;
@@ -70,7 +69,7 @@ pub extern "C" fn moss_int_set_reserve(marks: &[u8], keys: &[u64], asked: u64) -
 // The key, where it is there.
 #[no_mangle]
 pub extern "C" fn moss_int_set_get(marks: &[u8], keys: &[u64], key: u64) -> Numbers
-    ensures { λ r. ⌜ r ≡ getOf (before marks keys) key ⌝ }
+    ensures { λ r. ⌜ r ≡ setGetOf (before marks keys) key ⌝ }
 {
     member_numbers(int_set_reads::get(marks, keys, key))
 }
@@ -86,7 +85,7 @@ pub extern "C" fn moss_int_set_contains(marks: &[u8], keys: &[u64], key: u64) ->
 // Puts a key in.
 #[no_mangle]
 pub extern "C" fn moss_int_set_insert(marks: &mut [u8], keys: &mut [u64], key: u64) -> Numbers
-    ensures { λ r. ⌜ told r (after marks keys) ≡ insertOf (before marks keys) key ⌝ }
+    ensures { λ r. ⌜ told r (after marks keys) ≡ setInsertOf (before marks keys) key ⌝ }
 {
     added_numbers(int_set::insert(marks, keys, key))
 }
@@ -109,7 +108,7 @@ pub extern "C" fn moss_int_set_copy(
 ) -> Numbers
     ensures { λ r. ⌜ told r (after «to_marks» «to_keys») ≡ copyOf sets (before «to_marks» «to_keys») (before marks keys) ⌝ }
 {
-    outcome_numbers(int_set_copy::copy(to_marks, to_keys, marks, keys))
+    outcome_numbers(int_set::copy(to_marks, to_keys, marks, keys))
 }
 
 // Where a walk starts.

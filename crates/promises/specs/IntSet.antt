@@ -20,8 +20,7 @@ use Rattle.kinds.specs.Calls.{makeOf, droppedOf, capacityOf, lenOf, isEmptyOf, 
 use Rattle.kinds.specs.Moved.{movedOn}
 use Rattle.int_slots.specs.Memory.{Cells}
 use Rattle.int_slots.specs.Sets.{sets}
-use Rattle.int_set.specs.Calls.{insertOf}
-use Rattle.int_set_reads.specs.Calls.{getOf}
+use Rattle.int_slots.specs.Kinds.{setInsertOf, setGetOf}
 use Rattle.int_set_walk.specs.Calls.{stepOf}
 pub use Rattle.promises.specs.SetAlphabet.{make, clear, capacity, len, is-empty, reserve, copy, get, contains, insert, remove, step}
 use Rattle.promises.specs.SetAlphabet.{SetCall, setMeant}
@@ -38,9 +37,9 @@ told-by w x capacity = told (capacityOf sets (w x)) (w x)
 told-by w x len = told (lenOf sets (w x)) (w x)
 told-by w x is-empty = told (isEmptyOf sets (w x)) (w x)
 told-by w x (reserve n) = told (reserveOf sets (w x) n) (w x)
-told-by w x (get k) = told (getOf (w x) k) (w x)
+told-by w x (get k) = told (setGetOf (w x) k) (w x)
 told-by w x (contains k) = told (containsOf sets (w x) k) (w x)
-told-by w x (insert k) = insertOf (w x) k
+told-by w x (insert k) = setInsertOf (w x) k
 told-by w x (remove k) = droppedOf sets (w x) k
 told-by w x (copy y) = copyOf sets (w x) (w y)
 told-by w x (step at budget) = told (stepOf (w x) at budget) (w x)

@@ -1,14 +1,18 @@
--- `int_map_reads::capacity` meets its contract: refusal 1, or the number of slots.
+-- `int_map_reads::capacity` meets its contract: refusal 1 where the values do not fit, else what the set of the keys tells.
+use mathlib.Core.Path.{_∙_}
 use borrow.Author.Needs.{needs}
-use Rattle.int_map_reads.proofs.Laws.{capacity-done, capacity-not}
+use Rattle.kinds.proofs.Beside.{capacity-beside}
+use Rattle.int_slots.specs.Maps.{maps}
+use Rattle.int_slots.specs.Sets.{sets}
+use Rattle.int_map_reads.proofs.Laws.{as-set, capacity-short}
 use Rattle.int_map_reads.proofs.capacity.Statement.{statement}
 use Rattle.int_map_reads.proofs.capacity.Tie as tie
 
 returns : tie.Need-returns
-returns c = capacity-done _ _ _ (c .before .map-fits .ensures) (c .if1 .taken)
+returns c = (search needs) ∙ capacity-beside maps sets (as-set _ (c .before .if1 .taken))
 
 returns-2 : tie.Need-returns-2
-returns-2 c = capacity-not _ _ _ (c .before .map-fits .ensures) (c .if1 .left)
+returns-2 c = capacity-short _ (c .if1 .left)
 
 pub capacity-spec : {M : Type 1} → statement M
 capacity-spec = tie.close (tie.spec

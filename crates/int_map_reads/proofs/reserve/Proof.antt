@@ -1,24 +1,19 @@
--- `int_map_reads::reserve` meets its contract: refusals 1, 5 and 7, or room.
+-- `int_map_reads::reserve` meets its contract: refusal 1 where the values do not fit, else what the set of the keys tells.
+use mathlib.Core.Path.{_∙_}
 use borrow.Author.Needs.{needs}
-use native.Mathlib.Omega.{arith}
-use Rattle.kinds.proofs.Counts.{count-within, reserve-room, reserve-none, reserve-not}
+use Rattle.kinds.proofs.Beside.{reserve-beside}
+use Rattle.int_slots.specs.Maps.{maps}
+use Rattle.int_slots.specs.Sets.{sets}
+use Rattle.int_map_reads.proofs.Laws.{as-set, reserve-short}
 use Rattle.int_map_reads.proofs.reserve.Statement.{statement}
 use Rattle.int_map_reads.proofs.reserve.Tie as tie
 
-sub-if1 : tie.Need-sub-if1
-sub-if1 c = omega (arith, count-within _ _ (c .before .before .before .len .ensures) (c .before .count .given .1))
-
 returns : tie.Need-returns
-returns c = reserve-room _ _ (c .before .before .before .before .len .ensures) (c .before .before .count .given .1) (c .if1 .taken)
+returns c = (search needs) ∙ reserve-beside maps sets (as-set _ (c .before .if1 .taken)) _
 
 returns-2 : tie.Need-returns-2
-returns-2 c = reserve-none _ _ (c .before .before .before .before .len .ensures) (c .before .before .count .given .1) (c .if1 .left)
-
-returns-3 : tie.Need-returns-3
-returns-3 c = reserve-not _ _ (c .before .before .before .len .ensures) _ (c .before .count2 .given .1)
+returns-2 c = reserve-short _ (c .if1 .left) _
 
 pub reserve-spec : {M : Type 1} → statement M
-reserve-spec =
-    tie.close
-    (tie.spec
-    (λ c κs. search needs) (λ c. search needs) sub-if1 returns (λ c. search needs) returns-2 returns-3)
+reserve-spec = tie.close (tie.spec
+    (λ c κs. search needs) returns returns-2)

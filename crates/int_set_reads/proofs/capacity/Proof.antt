@@ -1,14 +1,16 @@
 -- `int_set_reads::capacity` meets its contract: refusal 1, or the number of slots.
 use borrow.Author.Needs.{needs}
-use Rattle.int_set_reads.proofs.Laws.{capacity-done, capacity-not}
+use Rattle.kinds.proofs.Sizing.{capacity-sized, capacity-unsized}
+use Rattle.int_slots.specs.Sets.{sets}
+use Rattle.int_slots.proofs.SetSizes.{fit, unfit}
 use Rattle.int_set_reads.proofs.capacity.Statement.{statement}
 use Rattle.int_set_reads.proofs.capacity.Tie as tie
 
 returns : tie.Need-returns
-returns c = capacity-done _ _ (c .before .fits2 .ensures) (c .if1 .taken)
+returns c = capacity-sized sets _ (fit _ _ (c .before .fits2 .ensures) (c .if1 .taken))
 
 returns-2 : tie.Need-returns-2
-returns-2 c = capacity-not _ _ (c .before .fits2 .ensures) (c .if1 .left)
+returns-2 c = capacity-unsized sets _ (unfit _ _ (c .before .fits2 .ensures) (c .if1 .left))
 
 pub capacity-spec : {M : Type 1} → statement M
 capacity-spec = tie.close (tie.spec

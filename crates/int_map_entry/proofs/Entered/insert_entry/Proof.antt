@@ -5,7 +5,7 @@ use Rattle.int_map_entry.proofs.Entered.insert_entry.Statement.{stateme
 use Rattle.int_map_entry.proofs.Entered.insert_entry.Tie as tie
 
 returns : tie.Need-returns
-returns c = insert-entry-vacant _ _ _ _ _ _ (c .before .before .before .before .before .before .before .before .before .before .before .match .keys2) (c .before .before .before .before .before .before .before .before .before .before .place .ensures) (c .before .before .before .before .before .before .insert .ensures)
+returns c = insert-entry-vacant _ _ _ _ _ _ (c .before .before .before .before .before .before .before .before .before .before .before .match .keys2) (c .before .before .before .before .before .before .before .before .before .before .vacant .ensures) (c .before .before .before .before .before .before .insert .ensures)
 
 returns-2 : tie.Need-returns-2
 returns-2 c = insert-entry-set _ _ _ _ _ _ (c .before .before .before .before .before .before .before .before .before .before .before .before .before .self .given .1) (c .before .before .before .before .before .before .before .before .set .ensures) (c .enum-told .given .1)

@@ -1,5 +1,5 @@
 -- `Occupied::remove_entry` meets its contract: the remove, with the key.
-use Rattle.int_map_occupied.proofs.Grips.{remove-entry-done, remove-entry-refused}
+use Rattle.int_map_occupied.proofs.Values.{remove-entry-done, remove-entry-refused}
 use borrow.Author.Needs.{needs}
 use Rattle.int_map_occupied.proofs.Occupied.remove_entry.Statement.{statement}
 use Rattle.int_map_occupied.proofs.Occupied.remove_entry.Tie as tie

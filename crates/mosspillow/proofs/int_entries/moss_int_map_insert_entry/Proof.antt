@@ -7,7 +7,7 @@ use Rattle.mosspillow.proofs.int_entries.moss_int_map_insert_entry.Stat
 use Rattle.mosspillow.proofs.int_entries.moss_int_map_insert_entry.Tie as tie
 
 returns : tie.Need-returns
-returns c = handed-by (insertEntryOf maps) (c .standing-numbers .ensures) (c .before .before .before .before .before .before .before .insert-entry .ensures) (c .before .before .before .before .before .before .before .before .before .before .before .entry-by-case .ensures _)
+returns c = handed-by (insertEntryOf maps) (c .in-slot-numbers .ensures) (c .before .before .before .before .before .before .before .insert-entry .ensures) (c .before .before .before .before .before .before .before .before .before .before .before .entry-by-case .ensures _)
 
 pub moss-int-map-insert-entry-spec : {M : Type 1} → statement M
 moss-int-map-insert-entry-spec =

@@ -7,7 +7,7 @@ use Rattle.mosspillow.proofs.int_entries.moss_int_map_or_insert.Stateme
 use Rattle.mosspillow.proofs.int_entries.moss_int_map_or_insert.Tie as tie
 
 returns : tie.Need-returns
-returns c = handed-by (orInsertOf maps) (c .standing-numbers .ensures) (c .before .before .before .before .before .before .before .or-insert .ensures) (c .before .before .before .before .before .before .before .before .before .before .before .entry-by-case .ensures _)
+returns c = handed-by (orInsertOf maps) (c .in-slot-numbers .ensures) (c .before .before .before .before .before .before .before .or-insert .ensures) (c .before .before .before .before .before .before .before .before .before .before .before .entry-by-case .ensures _)
 
 pub moss-int-map-or-insert-spec : {M : Type 1} → statement M
 moss-int-map-or-insert-spec =

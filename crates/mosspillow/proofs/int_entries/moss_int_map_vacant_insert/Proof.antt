@@ -5,7 +5,7 @@ use Rattle.mosspillow.proofs.int_entries.moss_int_map_vacant_insert.Sta
 use Rattle.mosspillow.proofs.int_entries.moss_int_map_vacant_insert.Tie as tie
 
 returns : tie.Need-returns
-returns c = handed (c .standing-numbers .ensures) (c .before .before .before .before .before .before .before .insert .ensures)
+returns c = handed (c .in-slot-numbers .ensures) (c .before .before .before .before .before .before .before .insert .ensures)
 
 pub moss-int-map-vacant-insert-spec : {M : Type 1} → statement M
 moss-int-map-vacant-insert-spec =

@@ -1,2 +1,0 @@
--- The definitions of integer maps.
-pub mod Calls

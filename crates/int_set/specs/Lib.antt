@@ -1,2 +1,0 @@
--- The definitions of integer sets.
-pub mod Calls

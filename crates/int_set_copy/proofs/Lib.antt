@@ -1,3 +1,0 @@
--- The laws of copies of integer sets.
-pub mod Laws
-pub mod Settled

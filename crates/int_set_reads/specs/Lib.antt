@@ -1,2 +1,0 @@
--- The definitions of the reading calls of integer sets.
-pub mod Calls
