@@ -6,3 +6,4 @@ pub mod Sizes
 pub mod Seeking
 pub mod MapSizes
 pub mod SetSizes
+pub mod Steps

@@ -6,3 +6,4 @@ pub mod Scanning
 pub mod Seeking
 pub mod Maps
 pub mod Sets
+pub mod Steps
