@@ -16,3 +16,4 @@ pub mod Sights
 pub mod Sizes
 pub mod Surveys
 pub mod Keys
+pub mod Steps

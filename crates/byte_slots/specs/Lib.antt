@@ -11,3 +11,4 @@ pub mod Planning
 pub mod Probing
 pub mod Scanning
 pub mod Surveying
+pub mod Steps

@@ -3,13 +3,10 @@ use Prim.Native.Nat.{ℕ, _+_, _-_, _≤_, _<_}
 use mathlib.Core.Bool.{Bool, true, false}
 use mathlib.Core.List.{List}
 use mathlib.Core.Path.{_≡_, refl, sym, _∙_}
-use native.Mathlib.Omega.{arith}
-use borrow.Author.Tests.{eq-eqb, ne-eqb, eqb-true, leb-true}
-use lib.Dec.{eqb, leb, ltb}
+use borrow.Author.Tests.{eq-eqb, ne-eqb, eqb-true}
 use lib.ListN.{length, getD}
 use Rattle.model.specs.Machine.{stepping}
 use Rattle.model.proofs.Cases.{both}
-use Rattle.digest.specs.Home.{slotsFit}
 use Rattle.answers.specs.declared.Numbers.{Numbers}
 use Rattle.answers.specs.declared.Refusal.{Refusal}
 use Rattle.answers.specs.declared.Refusal.the-variants.{Sizes}
@@ -27,7 +24,7 @@ use Rattle.kinds.proofs.Stepping as kinds
 use Rattle.int_slots.specs.Memory.{Cells, cells, memory, fitting}
 use Rattle.int_slots.specs.Sets.{memory as setMemory}
 use Rattle.int_slots.specs.Scanning.{nexting}
-use Rattle.int_slots.specs.Steps.{aheadIn}
+use Rattle.int_slots.specs.Steps.{aheadIn, setAhead, mapAhead}
 use Rattle.int_slots.proofs.Bridge.{sized-is, sized-short}
 use Rattle.int_slots.proofs.SetSizes.{fit, unfit}
 use Rattle.int_slots.proofs.Sizes.{fitting-says}
@@ -64,32 +61,36 @@ module _ {W : Type 0} (C : Column W) (m : Cells C) (at budget : ℕ) {r : Ahead}
     unfolding aheadIn
     said-refused q = kinds.said-refused (cells C) m (wordsOf (m .marks)) (wordsOf (m .keys)) (C .read (m .words)) refl at budget hand p q
 
+-- a map has as many values too
+pub live-pair : (m : Cells values) (at budget : ℕ) {r : Ahead} {j : ℕ} → r ≡ aheadIn values m at budget → r ≡ Live j → (at ≤ j) × (j < length (m .marks)) × (length (m .keys) ≡ length (m .marks)) × (length (m .words) ≡ length (m .marks))
+live-pair m at budget p q = let (a, b, k, l) = live-slot values m at budget p q in (a, b, k, sym (eqb-true (length (m .marks)) (length (m .words)) l))
+
 module _ (marks keys : List ℕ) (at budget : ℕ) where
   -- what marks and keys come upon, by the tests of the sizes and of the stretch
   module _ {b : Bool} (f : b ≡ fitting marks keys) where
-    pub ahead-unfit : b ≡ false → Refused Sizes ≡ aheadIn nothing (setMemory marks keys) at budget
+    pub ahead-unfit : b ≡ false → Refused Sizes ≡ setAhead marks keys at budget
     unfolding aheadIn
     ahead-unfit e = kinds.ahead-unsized (cells nothing .sized (setMemory marks keys)) (wordsOf marks) (length marks) at budget (unfit marks keys f e)
 
     module _ (e : b ≡ true) {s : Stretch} (p : s ≡ wayOf (length marks) at budget) where
-      pub ahead-done : s ≡ stretch.Done → Done ≡ aheadIn nothing (setMemory marks keys) at budget
+      pub ahead-done : s ≡ stretch.Done → Done ≡ setAhead marks keys at budget
       unfolding aheadIn
       ahead-done q = kinds.ahead-done (cells nothing .sized (setMemory marks keys)) (wordsOf marks) (length marks) at budget (fit marks keys f e) p q
 
-      pub ahead-refused : {x : Refusal} → s ≡ stretch.Refused x → Refused x ≡ aheadIn nothing (setMemory marks keys) at budget
+      pub ahead-refused : {x : Refusal} → s ≡ stretch.Refused x → Refused x ≡ setAhead marks keys at budget
       unfolding aheadIn
       ahead-refused q = kinds.ahead-refused (cells nothing .sized (setMemory marks keys)) (wordsOf marks) (length marks) at budget (fit marks keys f e) p q
 
-      pub ahead-upto : {z : ℕ} {n : Next} {r : Ahead} → s ≡ stretch.Upto z → n ≡ nexting marks at z → r ≡ aheadBy z n → r ≡ aheadIn nothing (setMemory marks keys) at budget
+      pub ahead-upto : {z : ℕ} {n : Next} {r : Ahead} → s ≡ stretch.Upto z → n ≡ nexting marks at z → r ≡ aheadBy z n → r ≡ setAhead marks keys at budget
       unfolding aheadIn nexting
       ahead-upto q g h = kinds.ahead-upto (cells nothing .sized (setMemory marks keys)) (wordsOf marks) (length marks) at budget (fit marks keys f e) p q g h
 
   -- values beside them: as many, or refusal 1
   module _ (vs : List ℕ) where
-    pub ahead-long : {r : Ahead} → length marks ≡ length vs → r ≡ aheadIn nothing (setMemory marks keys) at budget → r ≡ aheadIn values (memory marks keys vs) at budget
+    pub ahead-long : {r : Ahead} → length marks ≡ length vs → r ≡ setAhead marks keys at budget → r ≡ mapAhead marks keys vs at budget
     unfolding aheadIn
     ahead-long e p = rw (eq-eqb (length marks) (length vs) e) p
 
-    pub ahead-short : (length marks ≡ length vs → ⊥) → Refused Sizes ≡ aheadIn values (memory marks keys vs) at budget
+    pub ahead-short : (length marks ≡ length vs → ⊥) → Refused Sizes ≡ mapAhead marks keys vs at budget
     unfolding aheadIn
     ahead-short h = kinds.ahead-unsized (cells values .sized (memory marks keys vs)) (wordsOf marks) (length marks) at budget (sized-short values (memory marks keys vs) (ne-eqb (length marks) (length vs) h))
