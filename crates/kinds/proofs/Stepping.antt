@@ -1,5 +1,5 @@
 -- A step of a walk is what it comes upon: at any store whose slots stand by marks, keys and values, and from the tests and callees of the code.
-use Prim.Native.Nat.{ℕ, suc, _+_, _-_, _≤_, _<_}
+use Prim.Native.Nat.{ℕ, _+_, _-_, _≤_, _<_}
 use mathlib.Core.Bool.{Bool, true, false}
 use mathlib.Core.Path.{_≡_, refl, sym, _∙_}
 use native.Mathlib.Numerals.{add-one}
@@ -26,14 +26,7 @@ use Rattle.kinds.specs.declared.Ahead.the-variants.{Live, Nothing, Done,
 use Rattle.kinds.specs.Marks.{cellsOf}
 use Rattle.kinds.specs.Scanning.{nextingOf}
 use Rattle.kinds.specs.Stepping.{wayOf, aheadBy, aheadOn, aheadOf, steppedBy}
-use Rattle.kinds.proofs.Bridge.{pacedOf, nexting-pace, next-inside}
-
--- the slots of a step, by what stands first in its stretch
-stepped-paced : {K W : Type 0} (key : ℕ → K) (v : ℕ → W) (w g : ℕ) (x : Next) → pacedOf key v w g x ≡ steppedBy key v w (aheadBy (w + g) x)
-unfolding aheadBy steppedBy
-stepped-paced key v w g (next.Live j) = refl
-stepped-paced key v w g next.Bad = refl
-stepped-paced key v w g next.Nothing = let d : w + g - w ≡ g = omega arith in rw d
+use Rattle.kinds.proofs.Bridge.{nexting-pace, next-inside}
 
 module _ {K W : Type 0} (M : Store K W) (m : M .State) (mark : ℕ → ℕ) (key : ℕ → K) (v : ℕ → W) (stand : M .slots m ≡ cellsOf mark key v) (w b : ℕ) where
   -- a step is what it comes upon
@@ -45,7 +38,7 @@ module _ {K W : Type 0} (M : Store K W) (m : M .State) (mark : ℕ → ℕ) (key
       (λ z. rw z (by-bool (leb w (M .size m))
       (λ l. rw l (by-bool (eqb w (M .size m))
       (λ e. rw e)
-      (λ e. rw e (nexting-pace mark key v w (reachOf (M .size m) w b) ∙ stepped-paced key v w (reachOf (M .size m) w b) (nextingOf mark w (w + reachOf (M .size m) w b))))))
+      (λ e. rw e (nexting-pace mark key v w (reachOf (M .size m) w b)))))
       (λ l. rw l)))))
       (λ s. rw s))
 

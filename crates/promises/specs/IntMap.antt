@@ -22,7 +22,7 @@ use Rattle.int_slots.specs.Memory.{Cells}
 use Rattle.int_slots.specs.Maps.{maps}
 use Rattle.int_map.specs.Calls.{insertOf}
 use Rattle.kinds.specs.Calls.{makeOf, removeOf, capacityOf, lenOf, isEmptyOf, reserveOf, getOf, containsOf, copyOf, unionOf, setOf, entryOf, orInsertOf, insertEntryOf, heldOf, takenOf, standingOf}
-use Rattle.int_map_walk.specs.Calls.{stepOf}
+use Rattle.int_slots.specs.Steps.{stepOf}
 use Rattle.int_map_occupied.specs.Calls.{removeEntryOf}
 use Rattle.int_map_entry.specs.declared.Entered.{Entered}
 use Rattle.int_map_entry.specs.Calls.{handleOf}
