@@ -1,23 +1,18 @@
 // Walks of a byte set: a walk is a slot number, and each step hands out at most one key within its budget, as offset and length.
 ghost use mathlib.Core.Path.{_≡_};
-ghost use Prim.Native.Nat.{_+_, _≤_};
-ghost use lib.ListN.{length};
 ghost use Rattle.kinds.specs.Told.{told};
 ghost use Rattle.kinds.specs.Moved.{movedOn};
-ghost use Rattle.byte_slots.specs.Kinds.{setPaceOf, setStepOf};
+ghost use Rattle.byte_slots.specs.Kinds.{setStepOf};
 ghost use Rattle.byte_slots.specs.Sets.{before};
-ghost use Rattle.byte_set_walk.specs.Numbers.{refusedNumbers, stepNumbers};
+ghost use Rattle.byte_set_walk.specs.Numbers.{stepNumbers};
 use answers::Numbers;
 use answers::Refusal;
 use answers::number;
 use answers::span_walk_numbers;
 use answers::walk_numbers;
-use byte_slots::fits;
 use byte_slots::len_at;
-use byte_slots::next_live;
 use byte_slots::offset_at;
-use kinds::Next;
-use kinds::reach;
+use kinds::Ahead;
 
 // A walk of a set is the slot where it stands.
 pub struct Walk {
@@ -25,7 +20,7 @@ pub struct Walk {
 }
 
 // What a step of a walk hands out: a key's offset and length, nothing, or that the walk is done; or a refusal.
-pub enum Paced {
+pub enum Yielded {
     Member(usize, usize),
     Nothing,
     Done,
@@ -33,53 +28,10 @@ pub enum Paced {
 }
 
 // The answer of a step: the walk moved on, what it hands out, and the examined number.
-pub struct Stride {
+pub struct Stepped {
     pub walk: Walk,
-    pub out: Paced,
+    pub out: Yielded,
     pub examined: usize,
-}
-
-// A refused step: the walk as it came, and 0 examined.
-fn refused(at: usize, why: Refusal) -> Stride
-    ensures { λ r. ⌜ stepNumbers r ≡ refusedNumbers at why ⌝ }
-{
-    Stride {
-        walk: Walk { at },
-        out: Paced::Refused(why),
-        examined: 0,
-    }
-}
-
-// The slots of a step: up to the first live one, within so many.
-fn pace(
-    marks: &[u8],
-    offsets: &[u16],
-    lengths: &[u8],
-    arena: &[u8],
-    at: usize,
-    slots: usize,
-) -> Stride
-    requires { ⌜ (at + slots ≤ length (now marks)) × (length (now offsets) ≡ length (now marks)) × (length (now lengths) ≡ length (now marks)) ⌝ }
-    ensures { λ r. ⌜ stepNumbers r ≡ setPaceOf (before marks offsets lengths arena) at slots ⌝ }
-{
-    let next = next_live(marks, offsets, lengths, arena, at, at + slots);
-    match next {
-        Next::Live(slot) => {
-            let offset = offset_at(offsets, slot) as usize;
-            let length = len_at(lengths, slot) as usize;
-            Stride {
-                walk: Walk { at: slot + 1 },
-                out: Paced::Member(offset, length),
-                examined: slot + 1 - at,
-            }
-        }
-        Next::Bad => refused(at, Refusal::Damaged),
-        Next::Nothing => Stride {
-            walk: Walk { at: at + slots },
-            out: Paced::Nothing,
-            examined: slots,
-        },
-    }
 }
 
 impl Walk {
@@ -98,28 +50,37 @@ impl Walk {
         lengths: &[u8],
         arena: &[u8],
         budget: u64,
-    ) -> Stride
+    ) -> Stepped
         ensures { λ r. ⌜ stepNumbers r ≡ setStepOf (before marks offsets lengths arena) (self .at) budget ⌝ }
     {
         let at = self.at;
-        if fits(marks, offsets, lengths, arena) {
-            if budget == 0 {
-                return refused(at, Refusal::NoBudget);
+        let ahead = byte_slots::ahead(marks, offsets, lengths, arena, at, budget);
+        match ahead {
+            Ahead::Live(slot) => {
+                let offset = offset_at(offsets, slot) as usize;
+                let length = len_at(lengths, slot) as usize;
+                Stepped {
+                    walk: Walk { at: slot + 1 },
+                    out: Yielded::Member(offset, length),
+                    examined: slot + 1 - at,
+                }
             }
-            if marks.len() < at {
-                return refused(at, Refusal::WalkBeyond);
-            }
-            if at == marks.len() {
-                return Stride {
-                    walk: Walk { at },
-                    out: Paced::Done,
-                    examined: 0,
-                };
-            }
-            let slots = reach(marks.len(), at, budget);
-            return pace(marks, offsets, lengths, arena, at, slots);
+            Ahead::Nothing(slot) => Stepped {
+                walk: Walk { at: slot },
+                out: Yielded::Nothing,
+                examined: slot - at,
+            },
+            Ahead::Done => Stepped {
+                walk: Walk { at },
+                out: Yielded::Done,
+                examined: 0,
+            },
+            Ahead::Refused(why) => Stepped {
+                walk: Walk { at },
+                out: Yielded::Refused(why),
+                examined: 0,
+            },
         }
-        refused(at, Refusal::Sizes)
     }
 
     // One step of a lent walk, which moves on in its place.
@@ -130,7 +91,7 @@ impl Walk {
         lengths: &[u8],
         arena: &[u8],
         budget: u64,
-    ) -> Stride
+    ) -> Stepped
         ensures { λ r. ⌜ told (stepNumbers r) (now (self .exit) .at) ≡ movedOn (setStepOf (before marks offsets lengths arena) (now (self .entry) .at) budget) ⌝ }
     {
         let r = self.step(marks, offsets, lengths, arena, budget);
@@ -140,16 +101,16 @@ impl Walk {
 }
 
 // The numbers of a step of a walk.
-pub fn step_numbers(s: Stride) -> Numbers
+pub fn step_numbers(s: Stepped) -> Numbers
     ensures { λ n. ⌜ n ≡ stepNumbers s ⌝ }
 {
     let at = s.walk.at;
     let examined = s.examined;
     let out = s.out;
     match out {
-        Paced::Member(offset, length) => span_walk_numbers(0, offset, length, examined, at),
-        Paced::Nothing => walk_numbers(0, 15, 0, 0, examined, at),
-        Paced::Done => walk_numbers(0, 16, 0, 0, examined, at),
-        Paced::Refused(r) => walk_numbers(number(r), 0, 0, 0, examined, at),
+        Yielded::Member(offset, length) => span_walk_numbers(0, offset, length, examined, at),
+        Yielded::Nothing => walk_numbers(0, 15, 0, 0, examined, at),
+        Yielded::Done => walk_numbers(0, 16, 0, 0, examined, at),
+        Yielded::Refused(r) => walk_numbers(number(r), 0, 0, 0, examined, at),
     }
 }

@@ -1,5 +1,5 @@
 -- What the answers over the spans say of the calls' definitions, for any column: the laws that byte maps and byte sets cite.
-use Prim.Native.Nat.{ℕ, _+_, _≤_, _<_}
+use Prim.Native.Nat.{ℕ, _≤_, _<_}
 use mathlib.Core.Bool.{Bool, true, false}
 use mathlib.Core.List.{List}
 use mathlib.Core.Path.{_≡_, refl, sym, _∙_}
@@ -9,7 +9,6 @@ use lib.ListN.{length}
 use Rattle.model.specs.Slots.{total}
 use Rattle.model.specs.Store.{path, live-count, used, hurtful}
 use Rattle.model.specs.Calls.{Or, no, ok, need, pass, Seen, found, absent, Spot, occupied, vacant, seenBy, spotBy, get, entry, remove}
-use Rattle.model.specs.Walk.{paceTo}
 use Rattle.model.proofs.Cases.{by-bool, clash}
 use Rattle.digest.specs.Home.{homeOf, keyFits}
 use Rattle.digest.proofs.Bounds.{home-below}
@@ -18,14 +17,12 @@ use Rattle.kinds.specs.declared.Probed.{Probed}
 use Rattle.kinds.specs.declared.Probed.the-variants as probed
 use Rattle.kinds.specs.declared.Scanned.{Scanned}
 use Rattle.kinds.specs.declared.Scanned.the-variants as scanned
-use Rattle.kinds.specs.declared.Next.{Next}
-use Rattle.kinds.specs.declared.Next.the-variants as next
 use Rattle.kinds.specs.Columns.{Column}
 use Rattle.kinds.specs.Marks.{cellsOf}
 use Rattle.kinds.specs.Probing.{along}
 use Rattle.kinds.proofs.Alike.{total-alike}
 use Rattle.kinds.proofs.Bridge as kinds
-use Rattle.kinds.proofs.Bridge.{seenOf, spotIn, pacedOf, path-cells, seen-path, spot-path}
+use Rattle.kinds.proofs.Bridge.{seenOf, spotIn, path-cells, seen-path, spot-path}
 use Rattle.byte_slots.specs.declared.InsertPlan.{InsertPlan}
 use Rattle.byte_slots.specs.declared.InsertPlan.the-variants as insertPlan
 use Rattle.byte_slots.specs.declared.RemovePlan.{RemovePlan}
@@ -34,7 +31,7 @@ use Rattle.byte_slots.specs.Memory.{Spans, Strings, strings, keyAt, used
 use Rattle.byte_slots.specs.Marks.{markAt}
 use Rattle.byte_slots.specs.Planning.{insertPlanBy, roomFor, planningInsert, removePlanBy, planningRemove}
 use Rattle.byte_slots.specs.Probing.{pathFrom, pathOf, probing}
-use Rattle.byte_slots.specs.Scanning.{scanning, nexting}
+use Rattle.byte_slots.specs.Scanning.{scanning}
 use Rattle.byte_slots.proofs.Marks.{slots-cells}
 use Rattle.byte_slots.proofs.Sizes.{Sized, fitting-says}
 
@@ -160,13 +157,3 @@ module _ {W : Type 0} (C : Column W) (m : Strings C) where
     pub scan-live : {n : ℕ} → r ≡ scanned.Live n → (hurtful (strings C) m ≡ false) × (live-count (strings C) m ≡ n) × (n ≤ length (m .spans .marks))
     unfolding scanning
     scan-live q = kinds.scan-live (strings C) m (markAt (m .spans)) (keyAt (m .spans)) (C .read (m .words)) stand p q
-
-  -- a step's slots, by what the look ahead answered
-  pub paced-by : (w g : ℕ) {r x : Next} → r ≡ nexting (m .spans) w (w + g) → r ≡ x → paceTo (strings C .slots m) w g ≡ pacedOf (keyAt (m .spans)) (C .read (m .words)) w g x
-  unfolding nexting
-  paced-by w g p q = rw stand (kinds.paced-by (markAt (m .spans)) (keyAt (m .spans)) (C .read (m .words)) w g p q)
-
--- a live slot that the stretch from w to e gives is in it
-pub next-inside : (s : Spans) (w e : ℕ) {r : Next} {j : ℕ} → r ≡ nexting s w e → r ≡ next.Live j → (w ≤ j) × (j < e)
-unfolding nexting
-next-inside s w e p q = kinds.next-inside (markAt s) w e p q

@@ -20,3 +20,4 @@ pub mod Sights
 pub mod Sizes
 pub mod Surveys
 pub mod Keys
+pub mod Steps

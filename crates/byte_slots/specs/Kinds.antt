@@ -4,7 +4,6 @@ use mathlib.Core.List.{List}
 use Rattle.model.specs.Store.{Store}
 use Rattle.model.specs.Calls.{get, entry, after-insert}
 use Rattle.model.specs.Machine.{stepping}
-use Rattle.model.specs.Walk.{paceTo}
 use Rattle.answers.specs.declared.Numbers.{Numbers}
 use Rattle.answers.specs.Said.{storedSaid, joinedSaid, spannedSaid, spanHanded, spanOnlyHanded, stepSaid}
 use Rattle.kinds.specs.Columns.{values, nothing}
@@ -37,16 +36,10 @@ setInsertOf m k = told (joinedSaid (usedOf (m .spans)) (entry sets m k)) (after-
 unfoldable pub setGetOf : Strings nothing → List ℕ → Numbers
 setGetOf m k = spannedSaid (offsetAt (m .spans)) (lengthAt (m .spans)) (get sets m k)
 
--- The slots of a step of a byte map's walk from `at`, so many; and a step with a budget.
-unfoldable pub paceOf : Strings values → ℕ → ℕ → Numbers
-paceOf m at slots = stepSaid (spanHanded (offsetAt (m .spans)) (lengthAt (m .spans))) at (paceTo (maps .slots m) at slots)
-
+-- A step of a byte map's walk with a budget: the pair of the first live slot within it, nothing, or done; the walk moved on.
 unfoldable pub stepOf : Strings values → ℕ → ℕ → Numbers
 stepOf m at budget = stepSaid (spanHanded (offsetAt (m .spans)) (lengthAt (m .spans))) at (stepping maps m at budget)
 
 -- The same for a byte set.
-unfoldable pub setPaceOf : Strings nothing → ℕ → ℕ → Numbers
-setPaceOf m at slots = stepSaid (spanOnlyHanded (offsetAt (m .spans)) (lengthAt (m .spans))) at (paceTo (sets .slots m) at slots)
-
 unfoldable pub setStepOf : Strings nothing → ℕ → ℕ → Numbers
 setStepOf m at budget = stepSaid (spanOnlyHanded (offsetAt (m .spans)) (lengthAt (m .spans))) at (stepping sets m at budget)

@@ -12,3 +12,4 @@ pub mod Probing
 pub mod Seeking
 pub mod Scanning
 pub mod Surveying
+pub mod Steps

@@ -16,18 +16,23 @@ ghost use Rattle.byte_slots.specs.Planning.{insertPlanBy, planningInsert
 ghost use Rattle.byte_slots.specs.Scanning.{scanning, nexting};
 ghost use Rattle.byte_slots.specs.Seeking.{probingMap};
 ghost use Rattle.byte_slots.specs.Surveying.{higherEnd, surveying};
+ghost use Rattle.byte_slots.specs.Steps.{setAhead, mapAhead};
 use answers::Refusal;
 use digest::KEY_LIMIT;
 use digest::slot_of_key;
 use digest::slots_fit;
+use kinds::Ahead;
 use kinds::Next;
 use kinds::Probed;
 use kinds::Scanned;
 use kinds::Sight;
+use kinds::Stretch;
+use kinds::ahead_by;
 use kinds::count_mark;
 use kinds::ended_at;
 use kinds::first_free;
 use kinds::next_slot;
+use kinds::way;
 
 // The most bytes that an arena has.
 pub const ARENA_LIMIT: usize = 32768;
@@ -486,4 +491,47 @@ pub fn map_plan_remove(
         return plan_remove(marks, offsets, lengths, arena, key);
     }
     RemovePlan::Refused(Refusal::Sizes)
+}
+
+// What a step of a walk of a set comes upon: its tests in order, then the first live slot within its reach.
+pub fn ahead(
+    marks: &[u8],
+    offsets: &[u16],
+    lengths: &[u8],
+    arena: &[u8],
+    at: usize,
+    budget: u64,
+) -> Ahead
+    ensures { λ r. ⌜ r ≡ setAhead (spansBefore marks offsets lengths arena) at budget ⌝ }
+{
+    if fits(marks, offsets, lengths, arena) {
+        let stretch = way(marks.len(), at, budget);
+        match stretch {
+            Stretch::Upto(end) => {
+                let next = next_live(marks, offsets, lengths, arena, at, end);
+                return ahead_by(next, end);
+            }
+            Stretch::Done => return Ahead::Done,
+            Stretch::Refused(why) => return Ahead::Refused(why),
+        }
+    }
+    Ahead::Refused(Refusal::Sizes)
+}
+
+// The same of a map: refusal 1 where the values do not fit, else by the arrays of the keys.
+pub fn map_ahead(
+    marks: &[u8],
+    offsets: &[u16],
+    lengths: &[u8],
+    values: &[u64],
+    arena: &[u8],
+    at: usize,
+    budget: u64,
+) -> Ahead
+    ensures { λ r. ⌜ r ≡ mapAhead (spansBefore marks offsets lengths arena) (now (values .entry)) at budget ⌝ }
+{
+    if marks.len() == values.len() {
+        return ahead(marks, offsets, lengths, arena, at, budget);
+    }
+    Ahead::Refused(Refusal::Sizes)
 }

@@ -8,7 +8,7 @@ use Rattle.kinds.specs.Moved.{movedOn}
 use Rattle.int_slots.specs.Memory.{Cells}
 use Rattle.int_map_walk.specs.declared.Walk.{Walk}
 use Rattle.int_map_walk.specs.Numbers.{stepNumbers}
-use Rattle.int_map_walk.specs.Calls.{stepOf}
+use Rattle.int_slots.specs.Steps.{stepOf}
 use Rattle.int_map_walk.proofs.Equal.{stepNumbers-injective}
 
 module _ (m : Cells values) where

@@ -1,3 +1,2 @@
 -- The definitions of walks of integer maps.
-pub mod Calls
 pub mod Numbers

@@ -1,4 +1,3 @@
 -- The laws of walks of integer sets.
-pub mod Steps
 pub mod Equal
 pub mod Settled

@@ -8,16 +8,16 @@ use Rattle.kinds.specs.Moved.{movedOn}
 use Rattle.int_slots.specs.Memory.{Cells}
 use Rattle.int_set_walk.specs.declared.Walk.{Walk}
 use Rattle.int_set_walk.specs.Numbers.{stepNumbers}
-use Rattle.int_set_walk.specs.Calls.{stepOf}
+use Rattle.int_slots.specs.Steps.{setStepOf}
 use Rattle.int_set_walk.proofs.Equal.{stepNumbers-injective}
 
 module _ (m : Cells nothing) where
   -- `Walk::step`.
-  pub step-settled : (at budget : ℕ) → Settled stepNumbers (stepOf m at budget)
+  pub step-settled : (at budget : ℕ) → Settled stepNumbers (setStepOf m at budget)
   step-settled at budget = settled stepNumbers-injective
 
   -- `Walk::step_on`.
-  pub step-on-settled : (at budget : ℕ) → SettledWith stepNumbers (movedOn (stepOf m at budget))
+  pub step-on-settled : (at budget : ℕ) → SettledWith stepNumbers (movedOn (setStepOf m at budget))
   step-on-settled at budget = settled-with stepNumbers-injective
 
 -- `Walk::start`.

@@ -1,21 +1,15 @@
 // Walks of an integer set: a walk is a slot number, and each step hands out at most one key within its budget.
 ghost use mathlib.Core.Path.{_≡_};
-ghost use Prim.Native.Nat.{_+_, _≤_};
-ghost use lib.ListN.{length};
-ghost use Rattle.model.specs.Calls.{no};
-ghost use Rattle.answers.specs.Refusals.{numberOf};
-ghost use Rattle.answers.specs.Said.{keyHanded, stepSaid};
 ghost use Rattle.kinds.specs.Told.{told};
 ghost use Rattle.kinds.specs.Moved.{movedOn};
 ghost use Rattle.int_slots.specs.Sets.{before};
-ghost use Rattle.int_set_walk.specs.Calls.{paceOf, stepOf};
+ghost use Rattle.int_slots.specs.Steps.{setStepOf};
 ghost use Rattle.int_set_walk.specs.Numbers.{stepNumbers};
 use answers::Numbers;
 use answers::Refusal;
 use answers::number;
 use answers::walk_numbers;
-use kinds::Next;
-use kinds::reach;
+use kinds::Ahead;
 
 // A walk of a set is the slot where it stands.
 pub struct Walk {
@@ -23,7 +17,7 @@ pub struct Walk {
 }
 
 // What a step of a walk hands out: a key, nothing, or that the walk is done; or a refusal.
-pub enum Paced {
+pub enum Yielded {
     Member(u64),
     Nothing,
     Done,
@@ -31,42 +25,10 @@ pub enum Paced {
 }
 
 // The answer of a step: the walk moved on, what it hands out, and the examined number.
-pub struct Stride {
+pub struct Stepped {
     pub walk: Walk,
-    pub out: Paced,
+    pub out: Yielded,
     pub examined: usize,
-}
-
-// A refused step: the walk as it came, and 0 examined.
-fn refused(at: usize, why: Refusal) -> Stride
-    ensures { λ r. ⌜ stepNumbers r ≡ stepSaid keyHanded at (no (numberOf why)) ⌝ }
-{
-    Stride {
-        walk: Walk { at },
-        out: Paced::Refused(why),
-        examined: 0,
-    }
-}
-
-// The slots of a step: up to the first live one, within so many.
-fn pace(marks: &[u8], keys: &[u64], at: usize, slots: usize) -> Stride
-    requires { ⌜ (at + slots ≤ length (now marks)) × (length (now keys) ≡ length (now marks)) ⌝ }
-    ensures { λ r. ⌜ stepNumbers r ≡ paceOf (before marks keys) at slots ⌝ }
-{
-    let next = int_slots::next_live(marks, at, at + slots);
-    match next {
-        Next::Live(slot) => Stride {
-            walk: Walk { at: slot + 1 },
-            out: Paced::Member(keys[slot]),
-            examined: slot + 1 - at,
-        },
-        Next::Bad => refused(at, Refusal::Damaged),
-        Next::Nothing => Stride {
-            walk: Walk { at: at + slots },
-            out: Paced::Nothing,
-            examined: slots,
-        },
-    }
 }
 
 impl Walk {
@@ -78,32 +40,38 @@ impl Walk {
     }
 
     // One step with a budget of slots: the key of the first live slot within it, nothing, or done.
-    pub fn step(self, marks: &[u8], keys: &[u64], budget: u64) -> Stride
-        ensures { λ r. ⌜ stepNumbers r ≡ stepOf (before marks keys) (self .at) budget ⌝ }
+    pub fn step(self, marks: &[u8], keys: &[u64], budget: u64) -> Stepped
+        ensures { λ r. ⌜ stepNumbers r ≡ setStepOf (before marks keys) (self .at) budget ⌝ }
     {
         let at = self.at;
-        if int_slots::fits(marks, keys) {
-            if budget == 0 {
-                return refused(at, Refusal::NoBudget);
-            }
-            if marks.len() < at {
-                return refused(at, Refusal::WalkBeyond);
-            }
-            if at == marks.len() {
-                return Stride {
-                    walk: Walk { at },
-                    out: Paced::Done,
-                    examined: 0,
-                };
-            }
-            return pace(marks, keys, at, reach(marks.len(), at, budget));
+        let ahead = int_slots::ahead(marks, keys, at, budget);
+        match ahead {
+            Ahead::Live(slot) => Stepped {
+                walk: Walk { at: slot + 1 },
+                out: Yielded::Member(keys[slot]),
+                examined: slot + 1 - at,
+            },
+            Ahead::Nothing(slot) => Stepped {
+                walk: Walk { at: slot },
+                out: Yielded::Nothing,
+                examined: slot - at,
+            },
+            Ahead::Done => Stepped {
+                walk: Walk { at },
+                out: Yielded::Done,
+                examined: 0,
+            },
+            Ahead::Refused(why) => Stepped {
+                walk: Walk { at },
+                out: Yielded::Refused(why),
+                examined: 0,
+            },
         }
-        refused(at, Refusal::Sizes)
     }
 
     // One step of a lent walk, which moves on in its place.
-    pub fn step_on(&mut self, marks: &[u8], keys: &[u64], budget: u64) -> Stride
-        ensures { λ r. ⌜ told (stepNumbers r) (now (self .exit) .at) ≡ movedOn (stepOf (before marks keys) (now (self .entry) .at) budget) ⌝ }
+    pub fn step_on(&mut self, marks: &[u8], keys: &[u64], budget: u64) -> Stepped
+        ensures { λ r. ⌜ told (stepNumbers r) (now (self .exit) .at) ≡ movedOn (setStepOf (before marks keys) (now (self .entry) .at) budget) ⌝ }
     {
         let r = self.step(marks, keys, budget);
         *self = r.walk;
@@ -112,16 +80,16 @@ impl Walk {
 }
 
 // The numbers of a step of a walk.
-pub fn step_numbers(s: Stride) -> Numbers
+pub fn step_numbers(s: Stepped) -> Numbers
     ensures { λ n. ⌜ n ≡ stepNumbers s ⌝ }
 {
     let at = s.walk.at;
     let examined = s.examined;
     let out = s.out;
     match out {
-        Paced::Member(key) => walk_numbers(0, 14, key, 0, examined, at),
-        Paced::Nothing => walk_numbers(0, 15, 0, 0, examined, at),
-        Paced::Done => walk_numbers(0, 16, 0, 0, examined, at),
-        Paced::Refused(r) => walk_numbers(number(r), 0, 0, 0, examined, at),
+        Yielded::Member(key) => walk_numbers(0, 14, key, 0, examined, at),
+        Yielded::Nothing => walk_numbers(0, 15, 0, 0, examined, at),
+        Yielded::Done => walk_numbers(0, 16, 0, 0, examined, at),
+        Yielded::Refused(r) => walk_numbers(number(r), 0, 0, 0, examined, at),
     }
 }

@@ -1,5 +1,5 @@
 -- What the answers over marks and keys say of the calls' definitions, for any column: the laws that maps and sets cite.
-use Prim.Native.Nat.{ℕ, _+_, _-_, _≤_, _<_}
+use Prim.Native.Nat.{ℕ, _-_, _≤_, _<_}
 use mathlib.Core.Bool.{Bool, true, false, _&&_}
 use mathlib.Core.List.{List}
 use mathlib.Core.Path.{_≡_, refl, sym, _∙_}
@@ -9,7 +9,6 @@ use lib.Dec.{eqb, leb}
 use lib.ListN.{length}
 use Rattle.model.specs.Store.{path, live-count, used, hurtful}
 use Rattle.model.specs.Calls.{Or, no, need, pass, seenBy, spotBy, get, entry, remove}
-use Rattle.model.specs.Walk.{paceTo}
 use Rattle.model.proofs.Cases.{by-bool, clash}
 use Rattle.digest.specs.Home.{homeOfWord, slotsFit}
 use Rattle.digest.proofs.Bounds.{home-word-below}
@@ -18,17 +17,15 @@ use Rattle.kinds.specs.declared.Probed.{Probed}
 use Rattle.kinds.specs.declared.Probed.the-variants.{Hit, Free, Refused}
 use Rattle.kinds.specs.declared.Scanned.{Scanned}
 use Rattle.kinds.specs.declared.Scanned.the-variants as scanned
-use Rattle.kinds.specs.declared.Next.{Next}
-use Rattle.kinds.specs.declared.Next.the-variants as next
 use Rattle.kinds.specs.Columns.{Column}
 use Rattle.kinds.specs.Columns as columns
 use Rattle.kinds.specs.Marks.{wordsOf}
 use Rattle.kinds.specs.Probing.{along}
 use Rattle.kinds.proofs.Bridge as kinds
-use Rattle.kinds.proofs.Bridge.{seenOf, spotOf, pacedOf, path-cells, seen-path, spot-path, hit-below, free-below}
+use Rattle.kinds.proofs.Bridge.{seenOf, spotOf, path-cells, seen-path, spot-path, hit-below, free-below}
 use Rattle.int_slots.specs.Memory.{Cells, cells, fitting}
 use Rattle.int_slots.specs.Probing.{probing}
-use Rattle.int_slots.specs.Scanning.{scanning, nexting}
+use Rattle.int_slots.specs.Scanning.{scanning}
 use Rattle.int_slots.proofs.Sizes.{fitting-says}
 
 and-assoc : (a b c : Bool) → (a && (b && c)) ≡ ((a && b) && c)
@@ -103,16 +100,6 @@ module _ {W : Type 0} (C : Column W) (m : Cells C) where
     pub scan-live : {n : ℕ} → r ≡ scanned.Live n → (hurtful (cells C) m ≡ false) × (live-count (cells C) m ≡ n) × (n ≤ length (m .marks))
     unfolding scanning
     scan-live q = kinds.scan-live (cells C) m (wordsOf (m .marks)) (wordsOf (m .keys)) (C .read (m .words)) refl p q
-
-  -- a step's slots, by what the look ahead answered
-  pub paced-by : (w g : ℕ) {r x : Next} → r ≡ nexting (m .marks) w (w + g) → r ≡ x → paceTo (cells C .slots m) w g ≡ pacedOf (wordsOf (m .keys)) (C .read (m .words)) w g x
-  unfolding nexting
-  paced-by w g p q = kinds.paced-by (wordsOf (m .marks)) (wordsOf (m .keys)) (C .read (m .words)) w g p q
-
--- a live slot that the stretch from w to e gives is in it
-pub next-inside : (marks : List ℕ) (w e : ℕ) {r : Next} {j : ℕ} → r ≡ nexting marks w e → r ≡ next.Live j → (w ≤ j) × (j < e)
-unfolding nexting
-next-inside marks w e p q = kinds.next-inside (wordsOf marks) w e p q
 
 -- a slot that a probing gives is one of the table's, and there are as many keys as marks
 module _ (marks keys : List ℕ) (k : ℕ) {r : Probed} (p : r ≡ probing marks keys k) where

@@ -8,3 +8,4 @@ pub mod Seeking
 pub mod Calls
 pub mod MapSizes
 pub mod SetSizes
+pub mod Steps

@@ -7,3 +7,4 @@ pub mod Seeking
 pub mod Maps
 pub mod Sets
 pub mod Kinds
+pub mod Steps

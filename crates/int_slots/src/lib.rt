@@ -8,19 +8,24 @@ ghost use Rattle.int_slots.specs.Probing.{slotsIn, probing};
 ghost use Rattle.int_slots.specs.Scanning.{scanning, nexting};
 ghost use Rattle.int_slots.specs.Memory.{integers, fitting};
 ghost use Rattle.int_slots.specs.Seeking.{probingMap};
+ghost use Rattle.int_slots.specs.Steps.{setAhead, mapAhead};
 ghost use Rattle.int_slots.specs.Maps.{maps, before};
 ghost use Rattle.kinds.specs.Calls.{sizedOf};
 use answers::Refusal;
 use digest::slot_of_word;
 use digest::slots_fit;
+use kinds::Ahead;
 use kinds::Next;
 use kinds::Probed;
 use kinds::Scanned;
 use kinds::Sight;
+use kinds::Stretch;
+use kinds::ahead_by;
 use kinds::count_mark;
 use kinds::ended_at;
 use kinds::first_free;
 use kinds::next_slot;
+use kinds::way;
 
 // Whether marks and keys are of one length that a table may have.
 pub fn fits(marks: &[u8], keys: &[u64]) -> bool
@@ -146,4 +151,29 @@ pub fn map_probe(marks: &[u8], keys: &[u64], values: &[u64], key: u64) -> Probed
         return probe(marks, keys, key);
     }
     Probed::Refused(Refusal::Sizes)
+}
+
+// What a step of a walk of a set comes upon: its tests in order, then the first live slot within its reach.
+pub fn ahead(marks: &[u8], keys: &[u64], at: usize, budget: u64) -> Ahead
+    ensures { λ r. ⌜ r ≡ setAhead (now (marks .entry)) (now (keys .entry)) at budget ⌝ }
+{
+    if fits(marks, keys) {
+        let stretch = way(marks.len(), at, budget);
+        match stretch {
+            Stretch::Upto(end) => return ahead_by(next_live(marks, at, end), end),
+            Stretch::Done => return Ahead::Done,
+            Stretch::Refused(why) => return Ahead::Refused(why),
+        }
+    }
+    Ahead::Refused(Refusal::Sizes)
+}
+
+// The same of a map: refusal 1 where the values do not fit, else by marks and keys.
+pub fn map_ahead(marks: &[u8], keys: &[u64], values: &[u64], at: usize, budget: u64) -> Ahead
+    ensures { λ r. ⌜ r ≡ mapAhead (now (marks .entry)) (now (keys .entry)) (now (values .entry)) at budget ⌝ }
+{
+    if marks.len() == values.len() {
+        return ahead(marks, keys, at, budget);
+    }
+    Ahead::Refused(Refusal::Sizes)
 }

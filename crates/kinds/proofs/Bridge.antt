@@ -10,7 +10,7 @@ use Rattle.model.specs.Slots.{Slot, never, freed, bad, live, Keys, hurts, weigh
 use Rattle.model.specs.Path.{from, at, stops, Find, hit, miss, hurt, ends, stopAt, freeAt, find}
 use Rattle.model.specs.Store.{Store, path, slotAt, live-count, used, hurtful}
 use Rattle.model.specs.Calls.{Or, no, ok, need, Seen, found, absent, Spot, occupied, vacant, seenBy, spotBy}
-use Rattle.model.specs.Walk.{Paced, pair, nothing, halts, halted, paceTo}
+use Rattle.model.specs.Walk.{halts, halted, paceTo}
 use Rattle.model.proofs.Cases.{by-bool, by-lt, clash}
 use Rattle.model.proofs.Path.{at-below, hit-at, from-low, from-here}
 use Rattle.model.proofs.Slots.{count-high}
@@ -24,6 +24,7 @@ use Rattle.kinds.specs.declared.Next.the-variants as next
 use Rattle.kinds.specs.Marks.{cell, cellsOf, keysOnly, marksOnly}
 use Rattle.kinds.specs.Probing.{along}
 use Rattle.kinds.specs.Scanning.{scanningOf, nextAt, nextingOf}
+use Rattle.kinds.specs.Stepping.{aheadBy, steppedBy}
 
 -- What a lookup answers where the probing ended so; `read` gives the value at a slot.
 abbrev pub seenOf : {W : Type 0} → (ℕ → W) → Probed → Or (Seen W)
@@ -42,12 +43,6 @@ spotIn room read (Refused x) = no (numberOf x)
 -- The same where keys take no arena bytes.
 abbrev pub spotOf : {W : Type 0} → (ℕ → W) → Probed → Or (Spot W)
 spotOf read p = spotIn true read p
-
--- What a step answers that began at w and looks at g slots.
-abbrev pub pacedOf : {K W : Type 0} → (ℕ → K) → (ℕ → W) → ℕ → ℕ → Next → Or (Paced K W)
-pacedOf key read w g (next.Live j) = ok (pair (key j) (read j) (suc j) (suc j - w))
-pacedOf key read w g next.Bad = no 5
-pacedOf key read w g next.Nothing = ok (nothing (w + g) g)
 
 -- what holds of each kind of slot, whatever its key and value, holds of each mark
 same-cell : {K L W : Type 0} {a : K} {b : L} {v : W} (P : Slot K W → Slot L (Unit {0}) → Type 0) → P never never → P freed freed → P bad bad → P (live a v) (live b tt) → (m : ℕ) → P (cell m a v) (cell m b tt)
@@ -120,29 +115,25 @@ module _ {K W : Type 0} (mark : ℕ → ℕ) (key : ℕ → K) (v : ℕ → W) w
   count-cells (suc n) = rw (weigh-cell (key n) (v n) (mark n), count-cells n)
 
   -- a step's slots, by the first live or damaged one of the stretch
-  paced-at : (w g j m : ℕ) → halts (cell m (tt {0}) (tt {0})) ≡ true
-      → halted w j (cell m (key j) (v j)) ≡ pacedOf key v w g (nextAt j (cell m (tt {0}) (tt {0})))
-  unfolding halts halted nextAt cell
-  paced-at w g j zero h = clash cc
-  paced-at w g j (suc zero) h = refl
-  paced-at w g j (suc (suc zero)) h = clash cc
-  paced-at w g j (suc (suc (suc n))) h = refl
+  paced-at : (w e j m : ℕ) → halts (cell m (tt {0}) (tt {0})) ≡ true
+      → halted w j (cell m (key j) (v j)) ≡ steppedBy key v w (aheadBy e (nextAt j (cell m (tt {0}) (tt {0}))))
+  unfolding halts halted nextAt cell aheadBy steppedBy
+  paced-at w e j zero h = clash cc
+  paced-at w e j (suc zero) h = refl
+  paced-at w e j (suc (suc zero)) h = clash cc
+  paced-at w e j (suc (suc (suc n))) h = refl
 
   from-cells : (w g : ℕ) → from (λ i. halts (cellsOf mark key v i)) g w ≡ from (λ i. halts (marksOnly mark i)) g w
   from-cells w g = ap (λ (f : ℕ → Bool). from f g w) (fun-ext (λ i. halts-cell (key i) (v i) (mark i)))
 
-  pub nexting-pace : (w g : ℕ) → paceTo (cellsOf mark key v) w g ≡ pacedOf key v w g (nextingOf mark w (w + g))
-  unfolding paceTo nextingOf
+  pub nexting-pace : (w g : ℕ) → paceTo (cellsOf mark key v) w g ≡ steppedBy key v w (aheadBy (w + g) (nextingOf mark w (w + g)))
+  unfolding paceTo nextingOf aheadBy steppedBy
   nexting-pace w g =
       let d : w + g - w ≡ g = omega arith in
       let j = from (λ i. halts (marksOnly mark i)) g w in
       rw (from-cells w g, d) (by-lt j (w + g)
-      (λ l e. rw e (paced-at w g j (mark j) (from-here (λ i. halts (marksOnly mark i)) g w l)))
-      (λ l e. rw e))
-
-  -- the same, by what the code's look ahead answered
-  pub paced-by : (w g : ℕ) {r x : Next} → r ≡ nextingOf mark w (w + g) → r ≡ x → paceTo (cellsOf mark key v) w g ≡ pacedOf key v w g x
-  paced-by w g p q = rw (← q, p) (nexting-pace w g)
+      (λ l e. rw e (paced-at w (w + g) j (mark j) (from-here (λ i. halts (marksOnly mark i)) g w l)))
+      (λ l e. rw (e, d)))
 
 -- a stretch that ended at a live slot ended there
 at-live : {K W : Type 0} (x j : ℕ) (s : Slot K W) → nextAt x s ≡ next.Live j → x ≡ j

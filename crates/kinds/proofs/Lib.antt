@@ -10,6 +10,7 @@ pub mod Moved
 pub mod Scanning
 pub mod Settled
 pub mod Sizing
+pub mod Stepping
 pub mod Published
 pub mod Told
 pub mod Trail

@@ -7,6 +7,7 @@ pub mod Marks
 pub mod Moved
 pub mod Probing
 pub mod Scanning
+pub mod Stepping
 pub mod Told
 pub mod Published
 pub mod Owed

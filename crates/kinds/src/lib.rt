@@ -4,6 +4,7 @@ ghost use Prim.Native.Nat.{_≤_, _<_};
 ghost use Rattle.model.specs.Walk.{reachOf};
 ghost use Rattle.kinds.specs.Marks.{counted};
 ghost use Rattle.kinds.specs.Probing.{firstFree, nextSlot, ended};
+ghost use Rattle.kinds.specs.Stepping.{wayOf, aheadBy};
 use answers::Refusal;
 
 // What the look at a slot of a path says: never used, freed, damaged, live with the key, or live with another.
@@ -34,6 +35,21 @@ pub enum Next {
     Live(usize),
     Bad,
     Nothing,
+}
+
+// How far a step of a walk may look: up to a slot, or no further as the walk is done; or a refusal.
+pub enum Stretch {
+    Upto(usize),
+    Done,
+    Refused(Refusal),
+}
+
+// What a step of a walk comes upon: the first live slot within its budget, none with the slot where the walk then stands, or the end; or a refusal.
+pub enum Ahead {
+    Live(usize),
+    Nothing(usize),
+    Done,
+    Refused(Refusal),
 }
 
 // The first free slot of a path so far: the one known, else this one.
@@ -78,7 +94,7 @@ pub fn count_mark(mark: u8) -> usize
 }
 
 // How many slots a step of a walk may look at: its budget, and no more than there are from here.
-pub fn reach(size: usize, at: usize, budget: u64) -> usize
+fn reach(size: usize, at: usize, budget: u64) -> usize
     requires { ⌜ at ≤ size ⌝ }
     ensures { λ r. ⌜ r ≡ reachOf size at budget ⌝ }
 {
@@ -86,4 +102,31 @@ pub fn reach(size: usize, at: usize, budget: u64) -> usize
         return budget as usize;
     }
     size - at
+}
+
+// A step's tests of its budget and its place, and how far it may look.
+pub fn way(size: usize, at: usize, budget: u64) -> Stretch
+    ensures { λ r. ⌜ r ≡ wayOf size at budget ⌝ }
+{
+    if budget == 0 {
+        return Stretch::Refused(Refusal::NoBudget);
+    }
+    if size < at {
+        return Stretch::Refused(Refusal::WalkBeyond);
+    }
+    if at == size {
+        return Stretch::Done;
+    }
+    Stretch::Upto(at + reach(size, at, budget))
+}
+
+// What a step comes upon, by what stands first before the slot up to which it looks.
+pub fn ahead_by(next: Next, end: usize) -> Ahead
+    ensures { λ r. ⌜ r ≡ aheadBy end next ⌝ }
+{
+    match next {
+        Next::Live(slot) => Ahead::Live(slot),
+        Next::Bad => Ahead::Refused(Refusal::Damaged),
+        Next::Nothing => Ahead::Nothing(end),
+    }
 }

@@ -5,7 +5,7 @@ ghost use Rattle.kinds.specs.Moved.{movedOn};
 ghost use Rattle.int_slots.specs.Kinds.{insertOf};
 ghost use Rattle.kinds.specs.Calls.{makeOf, removeOf, capacityOf, lenOf, isEmptyOf, reserveOf, getOf, containsOf, copyOf, unionOf};
 ghost use Rattle.int_slots.specs.Maps.{maps, before, after};
-ghost use Rattle.int_map_walk.specs.Calls.{stepOf};
+ghost use Rattle.int_slots.specs.Steps.{stepOf};
 use answers::Numbers;
 use answers::contained_numbers;
 use answers::counted_numbers;

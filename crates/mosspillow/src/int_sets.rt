@@ -5,7 +5,7 @@ ghost use Rattle.kinds.specs.Moved.{movedOn};
 ghost use Rattle.int_slots.specs.Sets.{sets, before, after};
 ghost use Rattle.kinds.specs.Calls.{makeOf, droppedOf, capacityOf, lenOf, isEmptyOf, reserveOf, containsOf, copyOf};
 ghost use Rattle.int_slots.specs.Kinds.{setInsertOf, setGetOf};
-ghost use Rattle.int_set_walk.specs.Calls.{stepOf};
+ghost use Rattle.int_slots.specs.Steps.{setStepOf};
 use answers::Numbers;
 use answers::added_numbers;
 use answers::contained_numbers;
@@ -122,7 +122,7 @@ pub extern "C" fn moss_int_set_walk_start() -> u64
 // One step of a walk with a budget of slots.
 #[no_mangle]
 pub extern "C" fn moss_int_set_step(marks: &[u8], keys: &[u64], walk: u64, budget: u64) -> Numbers
-    ensures { λ r. ⌜ r ≡ stepOf (before marks keys) walk budget ⌝ }
+    ensures { λ r. ⌜ r ≡ setStepOf (before marks keys) walk budget ⌝ }
 {
     let from = Walk { at: walk as usize };
     step_numbers(from.step(marks, keys, budget))
@@ -136,7 +136,7 @@ pub extern "C" fn moss_int_set_walk_on(
     walk: &mut u64,
     budget: u64,
 ) -> Numbers
-    ensures { λ r. ⌜ told r (now (walk .exit)) ≡ movedOn (stepOf (before marks keys) (now (walk .entry)) budget) ⌝ }
+    ensures { λ r. ⌜ told r (now (walk .exit)) ≡ movedOn (setStepOf (before marks keys) (now (walk .entry)) budget) ⌝ }
 {
     let r = moss_int_set_step(marks, keys, *walk, budget);
     *walk = r.walk;

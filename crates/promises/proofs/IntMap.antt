@@ -41,7 +41,7 @@ use Rattle.int_slots.proofs.Places.{cells-steady, cells-apart}
 use Rattle.int_slots.specs.Maps.{maps}
 use Rattle.int_map_entry.specs.Calls.{handleOf}
 use Rattle.int_slots.specs.Kinds.{insertOf, removeEntryOf}
-use Rattle.int_map_walk.specs.Calls.{stepOf}
+use Rattle.int_slots.specs.Steps.{stepOf}
 use Rattle.promises.specs.IntMap.{Call, make, clear, capacity, len, is-empty, reserve, get, contains-key, remove, entry, copy, union-prefer-right, insert, occupied-get, occupied-remove, occupied-remove-entry, step, occupied-set, vacant-insert, or-insert, insert-entry, told-by, meant, published, pairTold, Owes, heard, lent-by, owed}
 use Rattle.promises.specs.MapAlphabet.{mapMeant}
 

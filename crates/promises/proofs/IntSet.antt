@@ -40,7 +40,7 @@ use Rattle.int_slots.proofs.Lawful.{cells-lawful}
 use Rattle.int_slots.proofs.Places.{cells-steady, cells-apart}
 use Rattle.int_slots.specs.Sets.{sets}
 use Rattle.int_slots.specs.Kinds.{setInsertOf, setGetOf}
-use Rattle.int_set_walk.specs.Calls.{stepOf}
+use Rattle.int_slots.specs.Steps.{setStepOf}
 use Rattle.promises.specs.IntSet.{Call, make, clear, capacity, len, is-empty, reserve, get, contains, insert, remove, copy, step, told-by, meant, published, keyTold, Owes, heard, lent-by, owed}
 use Rattle.promises.specs.SetAlphabet.{setMeant}
 
@@ -50,7 +50,7 @@ sets-lawful = cells-lawful nothing nothing-orderly
 
 -- Each published call tells the refusal of the theory's call.
 number-told : (w : World sets) (x : ℕ) (c : Call) → told-by w x c .numbers .refusal ≡ refusal (answer sets w x (meant w x c))
-unfolding told-by meant setMeant answer tells left leaves makeOf capacityOf lenOf isEmptyOf reserveOf setGetOf containsOf setInsertOf droppedOf copyOf stepOf refusal
+unfolding told-by meant setMeant answer tells left leaves makeOf capacityOf lenOf isEmptyOf reserveOf setGetOf containsOf setInsertOf droppedOf copyOf setStepOf refusal
 number-told w x make = doneSaid-refusal _ ∙ sym (reported (λ n. fine) (λ a. refl) _)
 number-told w x clear = doneSaid-refusal _ ∙ sym (reported (λ n. fine) (λ a. refl) _)
 number-told w x capacity = countSaid-refusal _ ∙ sym (reported number (λ a. refl) _)
@@ -66,7 +66,7 @@ number-told w x (step at budget) = stepSaid-refusal keyHanded (λ k v p e. refl)
 
 -- And leaves its memory.
 memory-told : (w : World sets) (x : ℕ) (c : Call) → told-by w x c .memory ≡ left sets w x (meant w x c)
-unfolding told-by meant setMeant answer tells left leaves makeOf capacityOf lenOf isEmptyOf reserveOf setGetOf containsOf setInsertOf droppedOf copyOf stepOf
+unfolding told-by meant setMeant answer tells left leaves makeOf capacityOf lenOf isEmptyOf reserveOf setGetOf containsOf setInsertOf droppedOf copyOf setStepOf
 memory-told w x make = refl
 memory-told w x clear = refl
 memory-told w x capacity = refl
@@ -82,7 +82,7 @@ memory-told w x (step at budget) = refl
 
 -- A step's numbers, heard, are the theory's step, on any memory.
 steps-heard : (w : World sets) (x a b : ℕ) → heard (w x) (told-by w x (step a b) .numbers) ≡ stepping sets (w x) a b
-unfolding told-by stepOf
+unfolding told-by setStepOf
 steps-heard w x a b = heard-step (λ n. n .key) (λ n. tt) keyHanded a (stepping sets (w x) a b) (step-numbered sets (w x) a b) (λ k v y e q. (refl, refl, refl, refl, refl, refl))
 
 -- A lent step tells what a step tells, and leaves the walk that it tells.
@@ -96,7 +96,7 @@ sets-linked = record { number = number-told; memory = memory-told; hears = steps
 
 -- Where the set of a call's table is known, the call tells what it owes.
 owes-told : (s : Book sets) → Right sets published s → (x : ℕ) (c : Call) (f : Finite ℕ (Unit {0})) → s .maps x ≡ some f → Owes s x f c (told-by (s .world) x c .numbers)
-unfolding told-by makeOf capacityOf lenOf isEmptyOf reserveOf containsOf droppedOf copyOf setInsertOf setGetOf stepOf doneSaid countSaid emptySaid roomSaid containedSaid droppedSaid memberSaid addedSaid stepSaid
+unfolding told-by makeOf capacityOf lenOf isEmptyOf reserveOf containsOf droppedOf copyOf setInsertOf setGetOf setStepOf doneSaid countSaid emptySaid roomSaid containedSaid droppedSaid memberSaid addedSaid stepSaid
 owes-told s h x make f e = capacity-owed sets sets-lawful (s .world x) f (h x f e) doneSaid (only 1) refl
 owes-told s h x clear f e = capacity-owed sets sets-lawful (s .world x) f (h x f e) doneSaid (only 1) refl
 owes-told s h x capacity f e = capacity-owed sets sets-lawful (s .world x) f (h x f e) countSaid _ refl
@@ -139,7 +139,7 @@ demand-1-named w x c p e = named-only sets published sets-linked (cells-steady n
 
 -- A refused call tells its number, zeros elsewhere, and the walk as it came.
 refused-zeros : (w : World sets) (x : ℕ) (c : Call) → (told-by w x c .numbers .refusal ≡ 0 → ⊥) → told-by w x c .numbers ≡ refusing (told-by w x c .numbers .refusal) (given (meant w x c))
-unfolding told-by meant setMeant given makeOf capacityOf lenOf isEmptyOf reserveOf containsOf droppedOf copyOf setInsertOf setGetOf stepOf doneSaid countSaid emptySaid roomSaid containedSaid droppedSaid memberSaid addedSaid stepSaid numberIn
+unfolding told-by meant setMeant given makeOf capacityOf lenOf isEmptyOf reserveOf containsOf droppedOf copyOf setInsertOf setGetOf setStepOf doneSaid countSaid emptySaid roomSaid containedSaid droppedSaid memberSaid addedSaid stepSaid numberIn
 refused-zeros w x make h = zeros doneSaid 0 (λ n. refl) (λ y. refl) (Calls.capacity sets (w x)) h
 refused-zeros w x clear h = zeros doneSaid 0 (λ n. refl) (λ y. refl) (Calls.capacity sets (w x)) h
 refused-zeros w x capacity h = zeros countSaid 0 (λ n. refl) (λ y. refl) (Calls.capacity sets (w x)) h
@@ -163,7 +163,7 @@ demand-1-zeros = record {
 
 -- On any memory an accepted lookup tells its path's own examined number.
 pub demand-2-examined : PathCounted sets published
-unfolding told-by meant setMeant asked keyOf containsOf droppedOf setInsertOf setGetOf stepOf containedSaid droppedSaid memberSaid addedSaid
+unfolding told-by meant setMeant asked keyOf containsOf droppedOf setInsertOf setGetOf setStepOf containedSaid droppedSaid memberSaid addedSaid
 demand-2-examined w x make k q e = clash cc
 demand-2-examined w x clear k q e = clash cc
 demand-2-examined w x capacity k q e = clash cc

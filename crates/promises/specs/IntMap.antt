@@ -23,7 +23,7 @@ use Rattle.int_slots.specs.Memory.{Cells}
 use Rattle.int_slots.specs.Maps.{maps}
 use Rattle.int_slots.specs.Kinds.{insertOf, removeEntryOf}
 use Rattle.kinds.specs.Calls.{makeOf, removeOf, capacityOf, lenOf, isEmptyOf, reserveOf, getOf, containsOf, copyOf, unionOf, setOf, entryOf, orInsertOf, insertEntryOf, heldOf, takenOf, standingOf}
-use Rattle.int_map_walk.specs.Calls.{stepOf}
+use Rattle.int_slots.specs.Steps.{stepOf}
 use Rattle.int_map_entry.specs.declared.Entered.{Entered}
 use Rattle.int_map_entry.specs.Calls.{handleOf}
 pub use Rattle.promises.specs.MapAlphabet.{make, clear, capacity, len, is-empty, reserve, copy, union-prefer-right, get, contains-key, remove, entry, insert, occupied-get, occupied-remove, occupied-remove-entry, step, occupied-set, vacant-insert, or-insert, insert-entry}

@@ -21,7 +21,7 @@ use Rattle.kinds.specs.Moved.{movedOn}
 use Rattle.int_slots.specs.Memory.{Cells}
 use Rattle.int_slots.specs.Sets.{sets}
 use Rattle.int_slots.specs.Kinds.{setInsertOf, setGetOf}
-use Rattle.int_set_walk.specs.Calls.{stepOf}
+use Rattle.int_slots.specs.Steps.{setStepOf}
 pub use Rattle.promises.specs.SetAlphabet.{make, clear, capacity, len, is-empty, reserve, copy, get, contains, insert, remove, step}
 use Rattle.promises.specs.SetAlphabet.{SetCall, setMeant}
 
@@ -42,7 +42,7 @@ told-by w x (contains k) = told (containsOf sets (w x) k) (w x)
 told-by w x (insert k) = setInsertOf (w x) k
 told-by w x (remove k) = droppedOf sets (w x) k
 told-by w x (copy y) = copyOf sets (w x) (w y)
-told-by w x (step at budget) = told (stepOf (w x) at budget) (w x)
+told-by w x (step at budget) = told (setStepOf (w x) at budget) (w x)
 
 -- The call of the theory that it is.
 unfoldable pub meant : World sets → ℕ → Call → model.Call ℕ (Unit {0})
@@ -50,7 +50,7 @@ meant w x c = setMeant c
 
 -- The step of a lent walk: what it tells, and the walk that it leaves in its place.
 unfoldable pub lent-by : World sets → ℕ → ℕ → ℕ → Told ℕ
-lent-by w x at budget = movedOn (stepOf (w x) at budget)
+lent-by w x at budget = movedOn (setStepOf (w x) at budget)
 
 -- What a step's numbers say: the key is told.
 abbrev pub heard : Cells nothing → Numbers → Or (Paced ℕ (Unit {0}))

@@ -5,7 +5,7 @@ use answers::Got;
 use answers::Inserted;
 use answers::Refusal;
 use answers::Removed;
-use int_map_walk::Paced;
+use int_map_walk::Yielded;
 use int_map_walk::Walk;
 use libc::EINTR;
 use libc::STDIN_FILENO;
@@ -92,16 +92,16 @@ fn walk(marks: &[u8], keys: &[u64], values: &[u64]) {
         let step = here.step(marks, keys, values, MOST as u64);
         let out = step.out;
         match out {
-            Paced::Pair(key, value) => {
+            Yielded::Pair(key, value) => {
                 say_number(key);
                 say_with(b" ", value);
             }
-            Paced::Nothing => {}
-            Paced::Done => {
+            Yielded::Nothing => {}
+            Yielded::Done => {
                 say(b"end\n");
                 return;
             }
-            Paced::Refused(why) => {
+            Yielded::Refused(why) => {
                 say_refusal(why);
                 return;
             }

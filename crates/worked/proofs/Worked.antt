@@ -13,8 +13,7 @@ use Rattle.kinds.specs.Marks.{cell}
 use Rattle.kinds.specs.Calls.{makeOf, capacityOf, lenOf, isEmptyOf, reserveOf, containsOf, copyOf, droppedOf, unionOf, getOf, removeOf, entryOf, heldOf, setOf, takenOf, standingOf, orInsertOf, insertEntryOf, slotOf}
 use Rattle.int_slots.specs.Kinds as ints
 use Rattle.int_map_entry.specs.Calls as int-entry
-use Rattle.int_map_walk.specs.Calls as int-walk
-use Rattle.int_set_walk.specs.Calls as int-set-walk
+use Rattle.int_slots.specs.Steps as int-steps
 use Rattle.byte_map_entry.specs.Calls as byte-entry
 use Rattle.byte_slots.specs.Keys.{sameBytes}
 use Rattle.byte_slots.specs.Memory.{part, endAt, keyAt, spanned, slotsOf, usedOf, beyond, harmful, fitting, pasted, closed, fall, fallen, filled, emptied, wiped, askedOf, keptOf}
@@ -31,10 +30,10 @@ use Rattle.worked.specs.ByteSetRows as bs
 
 -- Every row of the four lists holds.
 pub worked : Holds im.done im.before im.rows × Holds is.done is.before is.rows × Holds bm.done bm.before bm.rows × Holds bs.done bs.before bs.rows
-unfolding im.done im.before im.other im.rows is.done is.before is.other is.rows bm.done bm.before bm.other bm.rows bs.done bs.before bs.other bs.rows trace orders answers int-maps.told-by int-sets.told-by byte-maps.told-by byte-sets.told-by makeOf capacityOf lenOf isEmptyOf reserveOf containsOf copyOf droppedOf unionOf getOf removeOf entryOf heldOf setOf takenOf standingOf orInsertOf insertEntryOf slotOf ints.insertOf ints.removeEntryOf int-entry.handleOf int-walk.stepOf ints.setInsertOf ints.setGetOf int-set-walk.stepOf byte-entry.handleOf bytes.insertOf bytes.setInsertOf bytes.setGetOf bytes.stepOf bytes.setStepOf doneSaid countSaid emptySaid roomSaid gotSaid memberSaid containedSaid insertedSaid addedSaid removedSaid droppedSaid stepSaid enteredSaid heldSaid swappedSaid takenSaid takenEntrySaid standingSaid storedSaid joinedSaid spannedSaid stepping step pace paceTo reachOf halts halted need pass give seenBy spotBy get entry storedBy after-insert remove removedBy after-remove acted capacity after-make length reserve copy after-copy ruleBy rule storeAll missed lacking needs ruined union after-union gripOn grip occupied-get after-set occupied-remove after-drop goodFor vacancy vacant-insert after-fill or-insert after-or-insert insert-entry after-insert-entry path slotAt live-count used hurtful find stopAt freeAt from at stops ends frees hurts holds weigh total damaged pairOf pairs mixOf moreOf le cell sameBytes part endAt keyAt spanned slotsOf usedOf beyond harmful fitting pasted closed fall fallen filled emptied wiped askedOf keptOf
+unfolding im.done im.before im.other im.rows is.done is.before is.other is.rows bm.done bm.before bm.other bm.rows bs.done bs.before bs.other bs.rows trace orders answers int-maps.told-by int-sets.told-by byte-maps.told-by byte-sets.told-by makeOf capacityOf lenOf isEmptyOf reserveOf containsOf copyOf droppedOf unionOf getOf removeOf entryOf heldOf setOf takenOf standingOf orInsertOf insertEntryOf slotOf ints.insertOf ints.removeEntryOf int-entry.handleOf int-steps.stepOf ints.setInsertOf ints.setGetOf int-steps.setStepOf byte-entry.handleOf bytes.insertOf bytes.setInsertOf bytes.setGetOf bytes.stepOf bytes.setStepOf doneSaid countSaid emptySaid roomSaid gotSaid memberSaid containedSaid insertedSaid addedSaid removedSaid droppedSaid stepSaid enteredSaid heldSaid swappedSaid takenSaid takenEntrySaid standingSaid storedSaid joinedSaid spannedSaid stepping step pace paceTo reachOf halts halted need pass give seenBy spotBy get entry storedBy after-insert remove removedBy after-remove acted capacity after-make length reserve copy after-copy ruleBy rule storeAll missed lacking needs ruined union after-union gripOn grip occupied-get after-set occupied-remove after-drop goodFor vacancy vacant-insert after-fill or-insert after-or-insert insert-entry after-insert-entry path slotAt live-count used hurtful find stopAt freeAt from at stops ends frees hurts holds weigh total damaged pairOf pairs mixOf moreOf le cell sameBytes part endAt keyAt spanned slotsOf usedOf beyond harmful fitting pasted closed fall fallen filled emptied wiped askedOf keptOf
 worked = (refl, refl, refl, refl)
 
 -- And every row on damaged memory, and on arrays that disagree in length.
 pub worked-refused : Holds im.done im.damaged im.damagedRows × Holds im.done im.uneven im.unevenRows × Holds is.done is.damaged is.damagedRows × Holds is.done is.uneven is.unevenRows × Holds bm.done bm.damaged bm.damagedRows × Holds bm.done bm.gapped bm.gappedRows × Holds bm.done bm.uneven bm.unevenRows × Holds bs.done bs.damaged bs.damagedRows × Holds bs.done bs.uneven bs.unevenRows
-unfolding im.done im.damaged im.damagedRows im.uneven im.unevenRows im.other is.done is.damaged is.damagedRows is.uneven is.unevenRows is.other bm.done bm.damaged bm.damagedRows bm.gapped bm.gappedRows bm.uneven bm.unevenRows bm.other bs.done bs.damaged bs.damagedRows bs.uneven bs.unevenRows bs.other trace orders answers int-maps.told-by int-sets.told-by byte-maps.told-by byte-sets.told-by makeOf capacityOf lenOf isEmptyOf reserveOf containsOf copyOf droppedOf unionOf getOf removeOf entryOf heldOf setOf takenOf standingOf orInsertOf insertEntryOf slotOf ints.insertOf ints.removeEntryOf int-entry.handleOf int-walk.stepOf ints.setInsertOf ints.setGetOf int-set-walk.stepOf byte-entry.handleOf bytes.insertOf bytes.setInsertOf bytes.setGetOf bytes.stepOf bytes.setStepOf doneSaid countSaid emptySaid roomSaid gotSaid memberSaid containedSaid insertedSaid addedSaid removedSaid droppedSaid stepSaid enteredSaid heldSaid swappedSaid takenSaid takenEntrySaid standingSaid storedSaid joinedSaid spannedSaid stepping step pace paceTo reachOf halts halted need pass give seenBy spotBy get entry storedBy after-insert remove removedBy after-remove acted capacity after-make length reserve copy after-copy ruleBy rule storeAll missed lacking needs ruined union after-union gripOn grip occupied-get after-set occupied-remove after-drop goodFor vacancy vacant-insert after-fill or-insert after-or-insert insert-entry after-insert-entry path slotAt live-count used hurtful find stopAt freeAt from at stops ends frees hurts holds weigh total damaged pairOf pairs mixOf moreOf le cell sameBytes part endAt keyAt spanned slotsOf usedOf beyond harmful fitting pasted closed fall fallen filled emptied wiped askedOf keptOf
+unfolding im.done im.damaged im.damagedRows im.uneven im.unevenRows im.other is.done is.damaged is.damagedRows is.uneven is.unevenRows is.other bm.done bm.damaged bm.damagedRows bm.gapped bm.gappedRows bm.uneven bm.unevenRows bm.other bs.done bs.damaged bs.damagedRows bs.uneven bs.unevenRows bs.other trace orders answers int-maps.told-by int-sets.told-by byte-maps.told-by byte-sets.told-by makeOf capacityOf lenOf isEmptyOf reserveOf containsOf copyOf droppedOf unionOf getOf removeOf entryOf heldOf setOf takenOf standingOf orInsertOf insertEntryOf slotOf ints.insertOf ints.removeEntryOf int-entry.handleOf int-steps.stepOf ints.setInsertOf ints.setGetOf int-steps.setStepOf byte-entry.handleOf bytes.insertOf bytes.setInsertOf bytes.setGetOf bytes.stepOf bytes.setStepOf doneSaid countSaid emptySaid roomSaid gotSaid memberSaid containedSaid insertedSaid addedSaid removedSaid droppedSaid stepSaid enteredSaid heldSaid swappedSaid takenSaid takenEntrySaid standingSaid storedSaid joinedSaid spannedSaid stepping step pace paceTo reachOf halts halted need pass give seenBy spotBy get entry storedBy after-insert remove removedBy after-remove acted capacity after-make length reserve copy after-copy ruleBy rule storeAll missed lacking needs ruined union after-union gripOn grip occupied-get after-set occupied-remove after-drop goodFor vacancy vacant-insert after-fill or-insert after-or-insert insert-entry after-insert-entry path slotAt live-count used hurtful find stopAt freeAt from at stops ends frees hurts holds weigh total damaged pairOf pairs mixOf moreOf le cell sameBytes part endAt keyAt spanned slotsOf usedOf beyond harmful fitting pasted closed fall fallen filled emptied wiped askedOf keptOf
 worked-refused = (refl, refl, refl, refl, refl, refl, refl, refl, refl)

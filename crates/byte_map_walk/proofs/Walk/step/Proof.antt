@@ -1,30 +1,54 @@
--- `byte_map_walk::Walk::step` meets its contract: refusals 1, 3 and 4, done at S, else the slots within the reach.
+-- `byte_map_walk::Walk::step` meets its contract: the pair of the live slot that it comes upon, nothing, done, or the refusal.
 use borrow.Author.Needs.{needs}
-use Rattle.byte_map_walk.proofs.Steps.{step-unfit, step-unpaid, step-beyond, step-done, pace-fits, step-pace}
+use native.Mathlib.Omega.{arith}
+use Rattle.kinds.specs.Columns.{values}
+use Rattle.byte_slots.specs.Kinds.{stepOf}
+use Rattle.byte_slots.proofs.Steps.{live-pair, nothing-slot, said-span, said-nothing, said-done, said-refused}
+use Rattle.byte_map_walk.specs.Numbers.{stepNumbers, yieldedNumbers}
 use Rattle.byte_map_walk.proofs.Walk.step.Statement.{statement}
 use Rattle.byte_map_walk.proofs.Walk.step.Tie as tie
 
+len-at-requires : tie.Need-len-at-requires
+len-at-requires c κs = omega (arith, live-pair _ _ _ (c .before .before .before .before .map-ahead .ensures) (c .before .before .ahead .given .1))
+
+add-t17 : tie.Need-add-t17
+add-t17 c = omega (arith, live-pair _ _ _ (c .before .before .before .before .before .map-ahead .ensures) (c .before .before .before .ahead .given .1))
+
+mul-t19 : tie.Need-mul-t19
+mul-t19 c = omega (arith, live-pair _ _ _ (c .before .before .before .before .before .map-ahead .ensures) (c .before .before .before .ahead .given .1))
+
+shared-slice-read-t21 : tie.Need-shared-slice-read-t21
+shared-slice-read-t21 c = omega (arith, live-pair _ _ _ (c .before .before .before .before .before .before .map-ahead .ensures) (c .before .before .before .before .ahead .given .1))
+
+add-t23 : tie.Need-add-t23
+add-t23 c = omega (arith, live-pair _ _ _ (c .before .before .before .before .before .before .map-ahead .ensures) (c .before .before .before .before .ahead .given .1))
+
+sub-t24 : tie.Need-sub-t24
+sub-t24 c = omega (arith, live-pair _ _ _ (c .before .before .before .before .before .before .map-ahead .ensures) (c .before .before .before .before .ahead .given .1))
+
+sub-t27 : tie.Need-sub-t27
+sub-t27 c = omega (arith, nothing-slot values _ _ _ (c .before .before .before .map-ahead .ensures) (c .before .ahead2 .given .1))
+
 returns : tie.Need-returns
-returns c = step-unpaid _ _ _ (c .before .before .before .map-fits .ensures) (c .before .before .if1 .taken) (c .before .if2 .taken) _ (c .refused .ensures)
+unfolding stepNumbers yieldedNumbers stepOf
+returns c = said-span values _ _ _ (c .before .before .before .before .before .before .map-ahead .ensures) (λ v. v) (c .before .before .before .before .ahead .given .1) (c .before .before .offset-at .ensures) (c .before .len-at .ensures .0)
 
 returns-2 : tie.Need-returns-2
-returns-2 c = step-beyond _ _ _ (c .before .before .before .before .map-fits .ensures) (c .before .before .before .if1 .taken) (c .before .before .if2 .left) (c .before .if3 .taken) _ (c .refused2 .ensures)
+unfolding stepNumbers yieldedNumbers stepOf
+returns-2 c = said-nothing values _ _ _ (c .before .before .before .map-ahead .ensures) _ (c .before .ahead2 .given .1)
 
 returns-3 : tie.Need-returns-3
-returns-3 c = step-done _ _ _ (c .before .before .before .before .map-fits .ensures) (c .before .before .before .if1 .taken) (c .before .before .if2 .left) (c .if4 .taken)
-
-pace-requires : tie.Need-pace-requires
-pace-requires c κs = pace-fits _ _ _ (c .before .before .before .before .before .map-fits .ensures) (c .before .before .before .before .if1 .taken) (c .before .before .if3 .left) (c .reach .ensures)
+unfolding stepNumbers yieldedNumbers stepOf
+returns-3 c = said-done values _ _ _ (c .before .before .map-ahead .ensures) _ (c .enum-told .given .1)
 
 returns-4 : tie.Need-returns-4
-returns-4 c = step-pace _ _ _ (c .before .before .before .before .before .before .map-fits .ensures) (c .before .before .before .before .before .if1 .taken) (c .before .before .before .before .if2 .left) (c .before .before .before .if3 .left) (c .before .before .if4 .left) (c .before .reach .ensures) _ (c .pace .ensures)
-
-returns-5 : tie.Need-returns-5
-returns-5 c = step-unfit _ _ _ (c .before .before .map-fits .ensures) (c .before .if1 .left) _ (c .refused3 .ensures)
+unfolding stepNumbers yieldedNumbers stepOf
+returns-4 c = said-refused values _ _ _ (c .before .before .before .map-ahead .ensures) _ (c .before .ahead3 .given .1)
 
 pub step-spec : {M : Type 1} → statement M
 step-spec =
     tie.close
     (tie.spec
-    (λ c κs. search needs) (λ c κs. search needs) returns (λ c κs. search needs) returns-2 returns-3 (λ c κs. search needs) pace-requires
-    returns-4 (λ c κs. search needs) returns-5)
+    (λ c κs. search needs) (λ c. search needs) (λ c κs. search needs) (λ c. search needs) len-at-requires (λ c. search needs) add-t17
+    mul-t19 shared-slice-read-t21 add-t23 sub-t24 (λ c. search needs) sub-t27 (λ c. search needs) (λ c. search needs) returns returns-2
+    returns-3 returns-4)
