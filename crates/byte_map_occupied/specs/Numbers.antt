@@ -1,4 +1,5 @@
 -- The numbers that the paper prints for the answers of occupied handles.
+use Rattle.answers.specs.Cases.{REMOVED, VALUE, WAS}
 use Rattle.answers.specs.declared.Numbers.{Numbers}
 use Rattle.answers.specs.Numbers.{refusalNumbers}
 use Rattle.answers.specs.Said.{saidCase}
@@ -11,15 +12,15 @@ use Rattle.byte_map_occupied.specs.declared.Taken.the-variants as taken
 
 -- Of an occupied handle's get: case 17, the value and the handle's slot.
 unfoldable pub heldNumbers : Held → Numbers
-heldNumbers (held.Value v h) = saidCase 17 0 v (h .slot) 0
+heldNumbers (held.Value v h) = saidCase VALUE 0 v (h .slot) 0
 heldNumbers (held.Refused r) = refusalNumbers r
 
 -- Of its set: case 18, the old value and the handle's slot.
 unfoldable pub swappedNumbers : Swapped → Numbers
-swappedNumbers (swapped.Was v h) = saidCase 18 0 v (h .slot) 0
+swappedNumbers (swapped.Was v h) = saidCase WAS 0 v (h .slot) 0
 swappedNumbers (swapped.Refused r) = refusalNumbers r
 
 -- Of its remove and remove_entry: case 11, the value.
 unfoldable pub takenNumbers : Taken → Numbers
-takenNumbers (taken.Removed v) = saidCase 11 0 v 0 0
+takenNumbers (taken.Removed v) = saidCase REMOVED 0 v 0 0
 takenNumbers (taken.Refused r) = refusalNumbers r

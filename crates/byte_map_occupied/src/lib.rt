@@ -8,7 +8,10 @@ ghost use Rattle.byte_slots.specs.Maps.{before, after};
 ghost use Rattle.byte_map_occupied.specs.Numbers.{heldNumbers, swappedNumbers, takenNumbers};
 ghost use Rattle.byte_map_occupied.specs.Planning.{heldBy, valueIn, valueFor, removalPlanBy, planningRemoval};
 use answers::Numbers;
+use answers::REMOVED;
 use answers::Refusal;
+use answers::VALUE;
+use answers::WAS;
 use answers::case_numbers;
 use answers::refusal_numbers;
 use byte_slots::Surveyed;
@@ -221,7 +224,7 @@ pub fn held_numbers(a: Held) -> Numbers
     ensures { λ n. ⌜ n ≡ heldNumbers a ⌝ }
 {
     match a {
-        Held::Value(value, handle) => case_numbers(17, 0, value, handle.slot, 0),
+        Held::Value(value, handle) => case_numbers(VALUE, 0, value, handle.slot, 0),
         Held::Refused(r) => refusal_numbers(r),
     }
 }
@@ -231,7 +234,7 @@ pub fn swapped_numbers(a: Swapped) -> Numbers
     ensures { λ n. ⌜ n ≡ swappedNumbers a ⌝ }
 {
     match a {
-        Swapped::Was(old, handle) => case_numbers(18, 0, old, handle.slot, 0),
+        Swapped::Was(old, handle) => case_numbers(WAS, 0, old, handle.slot, 0),
         Swapped::Refused(r) => refusal_numbers(r),
     }
 }
@@ -241,7 +244,7 @@ pub fn taken_numbers(a: Taken) -> Numbers
     ensures { λ n. ⌜ n ≡ takenNumbers a ⌝ }
 {
     match a {
-        Taken::Removed(old) => case_numbers(11, 0, old, 0, 0),
+        Taken::Removed(old) => case_numbers(REMOVED, 0, old, 0, 0),
         Taken::Refused(r) => refusal_numbers(r),
     }
 }

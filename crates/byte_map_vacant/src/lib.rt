@@ -6,6 +6,7 @@ ghost use Rattle.byte_slots.specs.Kinds.{maps};
 ghost use Rattle.byte_slots.specs.Maps.{before, after};
 ghost use Rattle.byte_map_vacant.specs.Numbers.{inSlotNumbers};
 ghost use Rattle.byte_map_vacant.specs.Planning.{handleRefusal, vacancyBy};
+use answers::NOW;
 use answers::Numbers;
 use answers::Refusal;
 use answers::case_numbers;
@@ -91,7 +92,7 @@ pub fn in_slot_numbers(a: InSlot) -> Numbers
     ensures { λ n. ⌜ n ≡ inSlotNumbers a ⌝ }
 {
     match a {
-        InSlot::Now(handle, value) => case_numbers(19, 0, value, handle.slot, 0),
+        InSlot::Now(handle, value) => case_numbers(NOW, 0, value, handle.slot, 0),
         InSlot::Refused(r) => refusal_numbers(r),
     }
 }

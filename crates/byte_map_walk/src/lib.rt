@@ -5,8 +5,10 @@ ghost use Rattle.kinds.specs.Moved.{movedOn};
 ghost use Rattle.byte_slots.specs.Kinds.{stepOf};
 ghost use Rattle.byte_slots.specs.Maps.{before};
 ghost use Rattle.byte_map_walk.specs.Numbers.{stepNumbers};
+use answers::NOTHING;
 use answers::Numbers;
 use answers::Refusal;
+use answers::WALK_DONE;
 use answers::number;
 use answers::span_walk_numbers;
 use answers::walk_numbers;
@@ -117,8 +119,8 @@ pub fn step_numbers(s: Stepped) -> Numbers
             examined,
             at,
         ),
-        Yielded::Nothing => walk_numbers(0, 15, 0, 0, examined, at),
-        Yielded::Done => walk_numbers(0, 16, 0, 0, examined, at),
+        Yielded::Nothing => walk_numbers(0, NOTHING, 0, 0, examined, at),
+        Yielded::Done => walk_numbers(0, WALK_DONE, 0, 0, examined, at),
         Yielded::Refused(r) => walk_numbers(number(r), 0, 0, 0, examined, at),
     }
 }

@@ -5,8 +5,10 @@ ghost use Rattle.kinds.specs.Moved.{movedOn};
 ghost use Rattle.byte_slots.specs.Kinds.{setStepOf};
 ghost use Rattle.byte_slots.specs.Sets.{before};
 ghost use Rattle.byte_set_walk.specs.Numbers.{stepNumbers};
+use answers::NOTHING;
 use answers::Numbers;
 use answers::Refusal;
+use answers::WALK_DONE;
 use answers::number;
 use answers::span_walk_numbers;
 use answers::walk_numbers;
@@ -109,8 +111,8 @@ pub fn step_numbers(s: Stepped) -> Numbers
     let out = s.out;
     match out {
         Yielded::Member(offset, length) => span_walk_numbers(0, offset, length, examined, at),
-        Yielded::Nothing => walk_numbers(0, 15, 0, 0, examined, at),
-        Yielded::Done => walk_numbers(0, 16, 0, 0, examined, at),
+        Yielded::Nothing => walk_numbers(0, NOTHING, 0, 0, examined, at),
+        Yielded::Done => walk_numbers(0, WALK_DONE, 0, 0, examined, at),
         Yielded::Refused(r) => walk_numbers(number(r), 0, 0, 0, examined, at),
     }
 }

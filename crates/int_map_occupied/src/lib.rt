@@ -9,7 +9,10 @@ ghost use Rattle.int_map_occupied.specs.Numbers.{heldNumbers, swappedNum
 ghost use Rattle.int_slots.specs.Kinds.{removeEntryOf};
 ghost use Rattle.kinds.specs.Calls.{heldOf, setOf, takenOf};
 use answers::Numbers;
+use answers::REMOVED;
 use answers::Refusal;
+use answers::VALUE;
+use answers::WAS;
 use answers::case_numbers;
 use answers::refusal_numbers;
 
@@ -141,7 +144,7 @@ pub fn held_numbers(a: Held) -> Numbers
     ensures { λ n. ⌜ n ≡ heldNumbers a ⌝ }
 {
     match a {
-        Held::Value(value, handle) => case_numbers(17, 0, value, handle.slot, 0),
+        Held::Value(value, handle) => case_numbers(VALUE, 0, value, handle.slot, 0),
         Held::Refused(r) => refusal_numbers(r),
     }
 }
@@ -151,7 +154,7 @@ pub fn swapped_numbers(a: Swapped) -> Numbers
     ensures { λ n. ⌜ n ≡ swappedNumbers a ⌝ }
 {
     match a {
-        Swapped::Was(old, handle) => case_numbers(18, 0, old, handle.slot, 0),
+        Swapped::Was(old, handle) => case_numbers(WAS, 0, old, handle.slot, 0),
         Swapped::Refused(r) => refusal_numbers(r),
     }
 }
@@ -161,7 +164,7 @@ pub fn taken_numbers(a: Taken) -> Numbers
     ensures { λ n. ⌜ n ≡ takenNumbers a ⌝ }
 {
     match a {
-        Taken::Removed(old) => case_numbers(11, 0, old, 0, 0),
+        Taken::Removed(old) => case_numbers(REMOVED, 0, old, 0, 0),
         Taken::Refused(r) => refusal_numbers(r),
     }
 }
@@ -171,7 +174,7 @@ pub fn taken_entry_numbers(a: TakenEntry) -> Numbers
     ensures { λ n. ⌜ n ≡ takenEntryNumbers a ⌝ }
 {
     match a {
-        TakenEntry::Removed(key, old) => case_numbers(11, key, old, 0, 0),
+        TakenEntry::Removed(key, old) => case_numbers(REMOVED, key, old, 0, 0),
         TakenEntry::Refused(r) => refusal_numbers(r),
     }
 }

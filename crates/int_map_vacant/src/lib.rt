@@ -6,6 +6,7 @@ ghost use Rattle.int_map_vacant.specs.Numbers.{inSlotNumbers};
 ghost use Rattle.int_slots.specs.Kinds.{vacancyOf};
 ghost use Rattle.kinds.specs.Calls.{standingOf};
 ghost use Rattle.int_slots.specs.Maps.{maps, before, after};
+use answers::NOW;
 use answers::Numbers;
 use answers::Outcome;
 use answers::Refusal;
@@ -74,7 +75,7 @@ pub fn in_slot_numbers(a: InSlot) -> Numbers
     ensures { λ n. ⌜ n ≡ inSlotNumbers a ⌝ }
 {
     match a {
-        InSlot::Now(handle, value) => case_numbers(19, 0, value, handle.slot, 0),
+        InSlot::Now(handle, value) => case_numbers(NOW, 0, value, handle.slot, 0),
         InSlot::Refused(r) => refusal_numbers(r),
     }
 }

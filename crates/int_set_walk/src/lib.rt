@@ -5,8 +5,11 @@ ghost use Rattle.kinds.specs.Moved.{movedOn};
 ghost use Rattle.int_slots.specs.Sets.{before};
 ghost use Rattle.int_slots.specs.Steps.{setStepOf};
 ghost use Rattle.int_set_walk.specs.Numbers.{stepNumbers};
+use answers::NOTHING;
 use answers::Numbers;
+use answers::PAIR;
 use answers::Refusal;
+use answers::WALK_DONE;
 use answers::number;
 use answers::walk_numbers;
 use kinds::Ahead;
@@ -87,9 +90,9 @@ pub fn step_numbers(s: Stepped) -> Numbers
     let examined = s.examined;
     let out = s.out;
     match out {
-        Yielded::Member(key) => walk_numbers(0, 14, key, 0, examined, at),
-        Yielded::Nothing => walk_numbers(0, 15, 0, 0, examined, at),
-        Yielded::Done => walk_numbers(0, 16, 0, 0, examined, at),
+        Yielded::Member(key) => walk_numbers(0, PAIR, key, 0, examined, at),
+        Yielded::Nothing => walk_numbers(0, NOTHING, 0, 0, examined, at),
+        Yielded::Done => walk_numbers(0, WALK_DONE, 0, 0, examined, at),
         Yielded::Refused(r) => walk_numbers(number(r), 0, 0, 0, examined, at),
     }
 }
