@@ -1,18 +1,14 @@
 -- What the right needs of the left, slot by slot.
 use Prim.Native.Nat.{ℕ, zero, suc, _+_, _≤_, _<_}
-use mathlib.Core.Bool.{Bool, true, false, cond}
+use mathlib.Core.Bool.{true, cond}
 use mathlib.Core.List.{List}
-use mathlib.Core.Path.{_≡_, refl}
+use mathlib.Core.Path.{_≡_, refl, sym, _∙_}
 use native.Mathlib.Numerals.{add-one}
 use native.Mathlib.Omega.{arith}
-use lib.Dec.{ltb}
 use lib.ListN.{length, getD}
 use Rattle.model.specs.Slots.{weigh, total}
-use Rattle.model.specs.Path.{Find, hit, miss, hurt}
-use Rattle.model.specs.Store.{path}
-use Rattle.model.specs.Calls.{missed, lacking}
+use Rattle.model.specs.Calls.{lacking}
 use Rattle.model.proofs.Cases.{by-bool}
-use Rattle.digest.specs.Home.{homeOfWord}
 use Rattle.answers.specs.declared.Refusal.{Refusal}
 use Rattle.kinds.specs.declared.Probed.{Probed}
 use Rattle.kinds.specs.declared.Probed.the-variants as probed
@@ -20,38 +16,22 @@ use Rattle.kinds.specs.Columns.{values}
 use Rattle.kinds.specs.Marks.{cell}
 use Rattle.kinds.specs.Calls.{sizedOf}
 use Rattle.int_slots.specs.Memory.{Cells, memory}
-use Rattle.kinds.specs.Probing.{along}
 use Rattle.int_slots.specs.Seeking.{probingMap}
 use Rattle.int_slots.specs.Maps.{maps}
 use Rattle.int_map_union.specs.Calls.{slotNeeds, tableNeeds}
 use Rattle.int_slots.proofs.Seeking.{path-probed}
-
--- Whether a probing that ended so found no key.
-abbrev missedOf : Probed → Bool
-missedOf (probed.Hit s e) = false
-missedOf (probed.Free s e) = true
-missedOf (probed.Full e) = true
-missedOf (probed.Refused r) = true
-
-missed-along : (S h : ℕ) (x : Find ℕ) → missed maps x ≡ missedOf (along S h x)
-unfolding missed along
-missed-along S h (hit n v) = refl
-missed-along S h (miss e f) = by-bool (ltb f S) (λ t. rw t) (λ t. rw t)
-missed-along S h hurt = refl
+use Rattle.kinds.proofs.Uniting.{missedOf, lacking-probed, weigh-idle}
 
 -- a slot that is not live needs nothing
 pub slot-needs-idle : (l : Cells values) (mark key : ℕ) → (mark ≡ 1 → ⊥) → 0 ≡ slotNeeds l mark key
-unfolding slotNeeds cell weigh
-slot-needs-idle l zero key h = refl
-slot-needs-idle l (suc zero) key h = absurd (h refl)
-slot-needs-idle l (suc (suc zero)) key h = refl
-slot-needs-idle l (suc (suc (suc n))) key h = refl
+unfolding slotNeeds
+slot-needs-idle l mark key h = sym (weigh-idle (λ k. cond (lacking maps l k) 1 0) mark key (tt {0}) h)
 
 -- a live one by what the probing of its key found in the left
 module _ (marks keys vs : List ℕ) (mark k : ℕ) {r : Probed} (f : sizedOf maps (memory marks keys vs) ≡ true) (one : mark ≡ 1) (p : r ≡ probingMap (memory marks keys vs) k) where
   slot-needs-live : slotNeeds (memory marks keys vs) mark k ≡ cond (missedOf r) 1 0
-  unfolding slotNeeds cell weigh lacking sizedOf probingMap
-  slot-needs-live = rw (one, missed-along (length marks) (homeOfWord 0 (length marks) k) (path maps (memory marks keys vs) k), ← path-probed values (memory marks keys vs) k f, p)
+  unfolding slotNeeds cell weigh sizedOf probingMap
+  slot-needs-live = rw (one, lacking-probed maps (memory marks keys vs) k (p ∙ path-probed values (memory marks keys vs) k f))
 
   pub slot-needs-hit : {s e : ℕ} → r ≡ probed.Hit s e → 0 ≡ slotNeeds (memory marks keys vs) mark k
   slot-needs-hit q = rw (slot-needs-live, q)

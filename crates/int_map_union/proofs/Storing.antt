@@ -1,18 +1,13 @@
 -- The insert rule for the right's pairs, slot by slot.
-use Prim.Native.Nat.{ℕ, zero, suc, _+_, _≤_, _<_}
+use Prim.Native.Nat.{ℕ, suc, _+_, _≤_, _<_}
 use mathlib.Core.Bool.{true}
-use mathlib.Core.List.{List, [], _∷_, _++_}
-use mathlib.Core.Path.{_≡_, refl, sym, _∙_, ap}
+use mathlib.Core.List.{List}
+use mathlib.Core.Path.{_≡_, refl, _∙_}
 use native.Mathlib.Numerals.{add-one}
 use native.Mathlib.Omega.{arith}
-use lib.Dec.{ltb}
 use lib.ListN.{length, getD, set}
 use Rattle.model.specs.Slots.{pairOf, pairs}
-use Rattle.model.specs.Path.{Find, hit, miss, hurt}
-use Rattle.model.specs.Store.{path, slotAt}
-use Rattle.model.specs.Calls.{ruleBy, rule, storeAll}
-use Rattle.model.proofs.Cases.{by-bool}
-use Rattle.digest.specs.Home.{homeOfWord}
+use Rattle.model.specs.Calls.{rule, storeAll}
 use Rattle.answers.specs.declared.Refusal.{Refusal}
 use Rattle.kinds.specs.declared.Probed.{Probed}
 use Rattle.kinds.specs.declared.Probed.the-variants as probed
@@ -20,31 +15,17 @@ use Rattle.kinds.specs.Columns.{values}
 use Rattle.kinds.specs.Marks.{cell}
 use Rattle.kinds.specs.Calls.{sizedOf}
 use Rattle.int_slots.specs.Memory.{Cells, memory}
-use Rattle.kinds.specs.Probing.{along}
 use Rattle.int_slots.specs.Seeking.{probingMap}
 use Rattle.int_slots.specs.Maps.{maps}
 use Rattle.int_map_union.specs.Calls.{slotStored, allStored}
 use Rattle.int_slots.proofs.Seeking.{path-probed}
-
--- What the rule leaves where the probing of the key ended so.
-abbrev ruleOf : Cells values → ℕ → ℕ → Probed → Cells values
-ruleOf m k v (probed.Hit s e) = maps .over m s v
-ruleOf m k v (probed.Free s e) = maps .fill m s k v
-ruleOf m k v (probed.Full e) = m
-ruleOf m k v (probed.Refused r) = m
-
-module _ (m : Cells values) (k v : ℕ) where
-  rule-along : (x : Find ℕ) → ruleBy maps m k v x ≡ ruleOf m k v (along (length (m .marks)) (homeOfWord 0 (length (m .marks)) k) x)
-  unfolding ruleBy along slotAt
-  rule-along (hit n w) = refl
-  rule-along (miss e f) = by-bool (ltb f (length (m .marks))) (λ t. rw t) (λ t. rw t)
-  rule-along hurt = refl
+use Rattle.kinds.proofs.Uniting.{ruleOf, rule-probed, store-append, pair-idle}
 
 -- the rule with no test, by what the probing found
 module _ (marks keys vs : List ℕ) (k v : ℕ) {r : Probed} (f : sizedOf maps (memory marks keys vs) ≡ true) (p : r ≡ probingMap (memory marks keys vs) k) where
-  rule-found : rule maps (memory marks keys vs) k v ≡ ruleOf (memory marks keys vs) k v r
-  unfolding rule sizedOf probingMap
-  rule-found = rule-along (memory marks keys vs) k v (path maps (memory marks keys vs) k) ∙ ap (ruleOf (memory marks keys vs) k v) (sym (p ∙ path-probed values (memory marks keys vs) k f))
+  rule-found : rule maps (memory marks keys vs) k v ≡ ruleOf maps (memory marks keys vs) k v r
+  unfolding sizedOf probingMap
+  rule-found = rule-probed maps (memory marks keys vs) k (p ∙ path-probed values (memory marks keys vs) k f) v
 
   pub store-hit : {s e : ℕ} → r ≡ probed.Hit s e → memory marks keys (set vs s v) ≡ rule maps (memory marks keys vs) k v
   store-hit q = rw (rule-found, q)
@@ -66,25 +47,13 @@ module _ (l : Cells values) (mark k v : ℕ) where
 
   -- another slot stores nothing
   pub slot-idle : (mark ≡ 1 → ⊥) → l ≡ slotStored l mark k v
-  unfolding slotStored storeAll pairOf cell
-  slot-idle h = go mark h
-    where
-      go : (n : ℕ) → (n ≡ 1 → ⊥) → l ≡ slotStored l n k v
-      go zero h = refl
-      go (suc zero) h = absurd (h refl)
-      go (suc (suc zero)) h = refl
-      go (suc (suc (suc n))) h = refl
-
--- two lists of pairs, one after the other
-store-append : (ps qs : List (ℕ × ℕ)) (m : Cells values) → storeAll maps m (ps ++ qs) ≡ storeAll maps (storeAll maps m ps) qs
-unfolding storeAll
-store-append [] qs m = refl
-store-append (p ∷ ps) qs m = store-append ps qs (rule maps m (p .0) (p .1))
+  unfolding slotStored storeAll
+  slot-idle h = rw (pair-idle mark k v h)
 
 -- the pair of the last slot goes in last
 store-last : (l r : Cells values) (i : ℕ) → allStored l r (suc i) ≡ slotStored (allStored l r i) (getD (r .marks) i 0) (getD (r .keys) i 0) (getD (r .words) i 0)
 unfolding allStored slotStored pairs
-store-last l r i = store-append (pairs (maps .slots r) i) (pairOf (maps .slots r i)) l
+store-last l r i = store-append maps (pairs (maps .slots r) i) (pairOf (maps .slots r i)) l
 
 -- the loop's state: the pairs of the first i slots are in, and each list has its length
 pub record Storing (l r m : Cells values) (i : ℕ) : Type 0 where

@@ -15,3 +15,4 @@ pub mod Published
 pub mod Told
 pub mod Trail
 pub mod Owed
+pub mod Uniting
