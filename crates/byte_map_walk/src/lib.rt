@@ -13,6 +13,7 @@ use answers::number;
 use answers::span_walk_numbers;
 use answers::walk_numbers;
 use byte_slots::len_at;
+use byte_slots::map_ahead;
 use byte_slots::offset_at;
 use kinds::Ahead;
 
@@ -56,8 +57,7 @@ impl Walk {
     ) -> Stepped
         ensures { λ r. ⌜ stepNumbers r ≡ stepOf (before marks offsets lengths values arena) (self .at) budget ⌝ }
     {
-        let at = self.at;
-        let ahead = byte_slots::map_ahead(marks, offsets, lengths, values, arena, at, budget);
+        let ahead = map_ahead(marks, offsets, lengths, values, arena, self.at, budget);
         match ahead {
             Ahead::Live(slot) => {
                 let offset = offset_at(offsets, slot) as usize;
@@ -65,21 +65,21 @@ impl Walk {
                 Stepped {
                     walk: Walk { at: slot + 1 },
                     out: Yielded::Pair(offset, length, values[slot]),
-                    examined: slot + 1 - at,
+                    examined: slot + 1 - self.at,
                 }
             }
             Ahead::Nothing(slot) => Stepped {
                 walk: Walk { at: slot },
                 out: Yielded::Nothing,
-                examined: slot - at,
+                examined: slot - self.at,
             },
             Ahead::Done => Stepped {
-                walk: Walk { at },
+                walk: self,
                 out: Yielded::Done,
                 examined: 0,
             },
             Ahead::Refused(why) => Stepped {
-                walk: Walk { at },
+                walk: self,
                 out: Yielded::Refused(why),
                 examined: 0,
             },

@@ -3,7 +3,7 @@ use Prim.Native.Nat.{ℕ, _+_, _-_, _≤_, _<_}
 use mathlib.Core.Bool.{Bool, true, false}
 use mathlib.Core.List.{List}
 use mathlib.Core.Path.{_≡_, refl, sym, _∙_}
-use borrow.Author.Tests.{eq-eqb, ne-eqb, eqb-true}
+use borrow.Author.Tests.{eqb-true}
 use lib.ListN.{length, getD}
 use Rattle.model.specs.Machine.{stepping}
 use Rattle.model.proofs.Cases.{both}
@@ -12,21 +12,19 @@ use Rattle.answers.specs.declared.Refusal.{Refusal}
 use Rattle.answers.specs.declared.Refusal.the-variants.{Sizes}
 use Rattle.answers.specs.Refusals.{numberOf}
 use Rattle.answers.specs.Said.{walked, stepSaid}
-use Rattle.kinds.specs.declared.Next.{Next}
-use Rattle.kinds.specs.declared.Stretch.{Stretch}
-use Rattle.kinds.specs.declared.Stretch.the-variants as stretch
 use Rattle.kinds.specs.declared.Ahead.{Ahead}
 use Rattle.kinds.specs.declared.Ahead.the-variants.{Live, Nothing, Done, Refused}
 use Rattle.kinds.specs.Columns.{Column, values, nothing}
 use Rattle.kinds.specs.Marks.{wordsOf}
-use Rattle.kinds.specs.Stepping.{wayOf, aheadBy}
+use Rattle.kinds.specs.Stepping.{aheadOf}
 use Rattle.kinds.proofs.Stepping as kinds
 use Rattle.int_slots.specs.Memory.{Cells, cells, memory, fitting}
 use Rattle.int_slots.specs.Sets.{memory as setMemory}
-use Rattle.int_slots.specs.Scanning.{nexting}
+use Rattle.int_slots.specs.Seeking.{fittingMap}
 use Rattle.int_slots.specs.Steps.{aheadIn, setAhead, mapAhead}
-use Rattle.int_slots.proofs.Bridge.{sized-is, sized-short}
-use Rattle.int_slots.proofs.SetSizes.{fit, unfit}
+use Rattle.int_slots.proofs.Bridge.{sized-is}
+use Rattle.int_slots.proofs.MapSizes as MapSizes
+use Rattle.int_slots.proofs.SetSizes as SetSizes
 use Rattle.int_slots.proofs.Sizes.{fitting-says}
 
 module _ {W : Type 0} (C : Column W) (m : Cells C) (at budget : ℕ) {r : Ahead} (p : r ≡ aheadIn C m at budget) where
@@ -65,32 +63,27 @@ module _ {W : Type 0} (C : Column W) (m : Cells C) (at budget : ℕ) {r : Ahead}
 pub live-pair : (m : Cells values) (at budget : ℕ) {r : Ahead} {j : ℕ} → r ≡ aheadIn values m at budget → r ≡ Live j → (at ≤ j) × (j < length (m .marks)) × (length (m .keys) ≡ length (m .marks)) × (length (m .words) ≡ length (m .marks))
 live-pair m at budget p q = let (a, b, k, l) = live-slot values m at budget p q in (a, b, k, sym (eqb-true (length (m .marks)) (length (m .words)) l))
 
+-- what a step comes upon by the test of the sizes: of a set, and of a map
+module _ {W : Type 0} (C : Column W) (m : Cells C) (at budget : ℕ) where
+  ahead-sized : {r : Ahead} → cells C .sized m ≡ true → r ≡ aheadOf true (wordsOf (m .marks)) (length (m .marks)) at budget → r ≡ aheadIn C m at budget
+  unfolding aheadIn
+  ahead-sized e p = kinds.ahead-sized (cells C .sized m) (wordsOf (m .marks)) (length (m .marks)) at budget e p
+
+  ahead-unsized : cells C .sized m ≡ false → Refused Sizes ≡ aheadIn C m at budget
+  unfolding aheadIn
+  ahead-unsized e = kinds.ahead-unsized (cells C .sized m) (wordsOf (m .marks)) (length (m .marks)) at budget e
+
 module _ (marks keys : List ℕ) (at budget : ℕ) where
-  -- what marks and keys come upon, by the tests of the sizes and of the stretch
   module _ {b : Bool} (f : b ≡ fitting marks keys) where
-    pub ahead-unfit : b ≡ false → Refused Sizes ≡ setAhead marks keys at budget
-    unfolding aheadIn
-    ahead-unfit e = kinds.ahead-unsized (cells nothing .sized (setMemory marks keys)) (wordsOf marks) (length marks) at budget (unfit marks keys f e)
+    pub set-ahead : {r : Ahead} → b ≡ true → r ≡ aheadOf true (wordsOf marks) (length marks) at budget → r ≡ setAhead marks keys at budget
+    set-ahead e p = ahead-sized nothing (setMemory marks keys) at budget (SetSizes.fit marks keys f e) p
 
-    module _ (e : b ≡ true) {s : Stretch} (p : s ≡ wayOf (length marks) at budget) where
-      pub ahead-done : s ≡ stretch.Done → Done ≡ setAhead marks keys at budget
-      unfolding aheadIn
-      ahead-done q = kinds.ahead-done (cells nothing .sized (setMemory marks keys)) (wordsOf marks) (length marks) at budget (fit marks keys f e) p q
+    pub set-unfit : b ≡ false → Refused Sizes ≡ setAhead marks keys at budget
+    set-unfit e = ahead-unsized nothing (setMemory marks keys) at budget (SetSizes.unfit marks keys f e)
 
-      pub ahead-refused : {x : Refusal} → s ≡ stretch.Refused x → Refused x ≡ setAhead marks keys at budget
-      unfolding aheadIn
-      ahead-refused q = kinds.ahead-refused (cells nothing .sized (setMemory marks keys)) (wordsOf marks) (length marks) at budget (fit marks keys f e) p q
+  module _ (vs : List ℕ) {b : Bool} (f : b ≡ fittingMap marks keys vs) where
+    pub map-ahead : {r : Ahead} → b ≡ true → r ≡ aheadOf true (wordsOf marks) (length marks) at budget → r ≡ mapAhead marks keys vs at budget
+    map-ahead e p = ahead-sized values (memory marks keys vs) at budget (MapSizes.fit marks keys vs f e) p
 
-      pub ahead-upto : {z : ℕ} {n : Next} {r : Ahead} → s ≡ stretch.Upto z → n ≡ nexting marks at z → r ≡ aheadBy z n → r ≡ setAhead marks keys at budget
-      unfolding aheadIn nexting
-      ahead-upto q g h = kinds.ahead-upto (cells nothing .sized (setMemory marks keys)) (wordsOf marks) (length marks) at budget (fit marks keys f e) p q g h
-
-  -- values beside them: as many, or refusal 1
-  module _ (vs : List ℕ) where
-    pub ahead-long : {r : Ahead} → length marks ≡ length vs → r ≡ setAhead marks keys at budget → r ≡ mapAhead marks keys vs at budget
-    unfolding aheadIn
-    ahead-long e p = rw (eq-eqb (length marks) (length vs) e) p
-
-    pub ahead-short : (length marks ≡ length vs → ⊥) → Refused Sizes ≡ mapAhead marks keys vs at budget
-    unfolding aheadIn
-    ahead-short h = kinds.ahead-unsized (cells values .sized (memory marks keys vs)) (wordsOf marks) (length marks) at budget (sized-short values (memory marks keys vs) (ne-eqb (length marks) (length vs) h))
+    pub map-unfit : b ≡ false → Refused Sizes ≡ mapAhead marks keys vs at budget
+    map-unfit e = ahead-unsized values (memory marks keys vs) at budget (MapSizes.unfit marks keys vs f e)

@@ -1,9 +1,12 @@
 // Integer slots: sizes, the look at a slot, the probing loop, the scan, and the next live slot. Maps and sets share them.
 ghost use mathlib.Core.Path.{_≡_};
+ghost use mathlib.Core.Bool.{true};
 ghost use Prim.Native.Nat.{_<_, _≤_};
 ghost use lib.ListN.{length};
 ghost use Rattle.model.specs.Path.{find};
+ghost use Rattle.kinds.specs.Marks.{wordsOf};
 ghost use Rattle.kinds.specs.Probing.{lookOf, along};
+ghost use Rattle.kinds.specs.Stepping.{aheadOf};
 ghost use Rattle.int_slots.specs.Probing.{slotsIn, probing};
 ghost use Rattle.int_slots.specs.Scanning.{scanning, nexting};
 ghost use Rattle.int_slots.specs.Memory.{integers, fitting};
@@ -153,27 +156,34 @@ pub fn map_probe(marks: &[u8], keys: &[u64], values: &[u64], key: u64) -> Probed
     Probed::Refused(Refusal::Sizes)
 }
 
-// What a step of a walk of a set comes upon: its tests in order, then the first live slot within its reach.
+// What a step of a walk comes upon where the sizes are right: its tests in order, then the first live slot within its reach.
+fn look_ahead(marks: &[u8], at: usize, budget: u64) -> Ahead
+    ensures { λ r. ⌜ r ≡ aheadOf true (wordsOf (now (marks .entry))) (length (now (marks .entry))) at budget ⌝ }
+{
+    let stretch = way(marks.len(), at, budget);
+    match stretch {
+        Stretch::Upto(end) => ahead_by(next_live(marks, at, end), end),
+        Stretch::Done => Ahead::Done,
+        Stretch::Refused(why) => Ahead::Refused(why),
+    }
+}
+
+// What a step of a walk of a set comes upon: refusal 1, or what it comes upon among the marks.
 pub fn ahead(marks: &[u8], keys: &[u64], at: usize, budget: u64) -> Ahead
     ensures { λ r. ⌜ r ≡ setAhead (now (marks .entry)) (now (keys .entry)) at budget ⌝ }
 {
     if fits(marks, keys) {
-        let stretch = way(marks.len(), at, budget);
-        match stretch {
-            Stretch::Upto(end) => return ahead_by(next_live(marks, at, end), end),
-            Stretch::Done => return Ahead::Done,
-            Stretch::Refused(why) => return Ahead::Refused(why),
-        }
+        return look_ahead(marks, at, budget);
     }
     Ahead::Refused(Refusal::Sizes)
 }
 
-// The same of a map: refusal 1 where the values do not fit, else by marks and keys.
+// The same of a map.
 pub fn map_ahead(marks: &[u8], keys: &[u64], values: &[u64], at: usize, budget: u64) -> Ahead
     ensures { λ r. ⌜ r ≡ mapAhead (now (marks .entry)) (now (keys .entry)) (now (values .entry)) at budget ⌝ }
 {
-    if marks.len() == values.len() {
-        return ahead(marks, keys, at, budget);
+    if map_fits(marks, keys, values) {
+        return look_ahead(marks, at, budget);
     }
     Ahead::Refused(Refusal::Sizes)
 }

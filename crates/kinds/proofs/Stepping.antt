@@ -4,7 +4,7 @@ use mathlib.Core.Bool.{Bool, true, false}
 use mathlib.Core.Path.{_≡_, refl, sym, _∙_}
 use native.Mathlib.Numerals.{add-one}
 use native.Mathlib.Omega.{arith}
-use borrow.Author.Tests.{leb-true}
+use borrow.Author.Tests.{eq-eqb, ne-eqb, le-leb, leb-true}
 use lib.Dec.{leb, eqb}
 use Rattle.model.specs.Store.{Store}
 use Rattle.model.specs.Calls.{need, pass}
@@ -69,6 +69,9 @@ module _ (sized : Bool) (mark : ℕ → ℕ) (S w b : ℕ) where
   unfolding aheadOf
   ahead-unsized e = rw e
 
+  pub ahead-sized : {r : Ahead} → sized ≡ true → r ≡ aheadOf true mark S w b → r ≡ aheadOf sized mark S w b
+  ahead-sized e p = rw e p
+
   module _ (e : sized ≡ true) {s : Stretch} (p : s ≡ wayOf S w b) where
     pub ahead-done : s ≡ stretch.Done → Done ≡ aheadOf sized mark S w b
     unfolding aheadOf aheadOn
@@ -82,9 +85,18 @@ module _ (sized : Bool) (mark : ℕ → ℕ) (S w b : ℕ) where
     unfolding aheadOf aheadOn
     ahead-upto q f g = rw (e, ← p, q, ← f) g
 
--- a step's reach is among the slots, and so is its stretch
-pub reach-inside : (S w b : ℕ) {g : ℕ} → w ≤ S → g ≡ reachOf S w b → w + g ≤ S
-reach-inside S w b l e = omega (arith, reach-high S w b)
+-- a step's stretch, by its tests; its reach is among the slots, and so is the stretch
+module _ (S w b : ℕ) where
+  pub reach-inside : {g : ℕ} → w < S → g ≡ reachOf S w b → w + g ≤ S
+  reach-inside l e = omega (arith, reach-high S w b)
+
+  pub way-upto : {g : ℕ} → (b ≡ 0 → ⊥) → w < S → g ≡ reachOf S w b → stretch.Upto (w + g) ≡ wayOf S w b
+  unfolding wayOf
+  way-upto h l e = rw (ne-eqb b 0 h, le-leb w S (omega arith), ne-eqb w S (λ z. omega arith), e)
+
+  pub way-done : (b ≡ 0 → ⊥) → S ≤ w → w ≤ S → stretch.Done ≡ wayOf S w b
+  unfolding wayOf
+  way-done h l k = rw (ne-eqb b 0 h, le-leb w S k, eq-eqb w S (omega arith))
 
 pub way-inside : (S w b : ℕ) {s : Stretch} {z : ℕ} → s ≡ wayOf S w b → s ≡ stretch.Upto z → (w ≤ z) × (z ≤ S)
 unfolding wayOf

@@ -111,13 +111,13 @@ pub fn way(size: usize, at: usize, budget: u64) -> Stretch
     if budget == 0 {
         return Stretch::Refused(Refusal::NoBudget);
     }
+    if at < size {
+        return Stretch::Upto(at + reach(size, at, budget));
+    }
     if size < at {
         return Stretch::Refused(Refusal::WalkBeyond);
     }
-    if at == size {
-        return Stretch::Done;
-    }
-    Stretch::Upto(at + reach(size, at, budget))
+    Stretch::Done
 }
 
 // What a step comes upon, by what stands first before the slot up to which it looks.

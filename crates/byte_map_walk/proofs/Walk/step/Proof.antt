@@ -11,31 +11,31 @@ use Rattle.byte_map_walk.proofs.Walk.step.Tie as tie
 len-at-requires : tie.Need-len-at-requires
 len-at-requires c κs = omega (arith, live-pair _ _ _ (c .before .before .before .before .map-ahead .ensures) (c .before .before .ahead .given .1))
 
-add-t17 : tie.Need-add-t17
-add-t17 c = omega (arith, live-pair _ _ _ (c .before .before .before .before .before .map-ahead .ensures) (c .before .before .before .ahead .given .1))
+add-t16 : tie.Need-add-t16
+add-t16 c = omega (arith, live-pair _ _ _ (c .before .before .before .before .before .map-ahead .ensures) (c .before .before .before .ahead .given .1))
 
-mul-t19 : tie.Need-mul-t19
-mul-t19 c = omega (arith, live-pair _ _ _ (c .before .before .before .before .before .map-ahead .ensures) (c .before .before .before .ahead .given .1))
+mul-t18 : tie.Need-mul-t18
+mul-t18 c = omega (arith, live-pair _ _ _ (c .before .before .before .before .before .map-ahead .ensures) (c .before .before .before .ahead .given .1))
 
-shared-slice-read-t21 : tie.Need-shared-slice-read-t21
-shared-slice-read-t21 c = omega (arith, live-pair _ _ _ (c .before .before .before .before .before .before .map-ahead .ensures) (c .before .before .before .before .ahead .given .1))
+shared-slice-read-t20 : tie.Need-shared-slice-read-t20
+shared-slice-read-t20 c = omega (arith, live-pair _ _ _ (c .before .before .before .before .before .before .map-ahead .ensures) (c .before .before .before .before .ahead .given .1))
 
-add-t23 : tie.Need-add-t23
-add-t23 c = omega (arith, live-pair _ _ _ (c .before .before .before .before .before .before .map-ahead .ensures) (c .before .before .before .before .ahead .given .1))
+add-t22 : tie.Need-add-t22
+add-t22 c = omega (arith, live-pair _ _ _ (c .before .before .before .before .before .before .map-ahead .ensures) (c .before .before .before .before .ahead .given .1))
 
-sub-t24 : tie.Need-sub-t24
-sub-t24 c = omega (arith, live-pair _ _ _ (c .before .before .before .before .before .before .map-ahead .ensures) (c .before .before .before .before .ahead .given .1))
+sub-t23 : tie.Need-sub-t23
+sub-t23 c = omega (arith, live-pair _ _ _ (c .before .before .before .before .before .before .before .map-ahead .ensures) (c .before .before .before .before .before .ahead .given .1))
 
-sub-t27 : tie.Need-sub-t27
-sub-t27 c = omega (arith, nothing-slot values _ _ _ (c .before .before .before .map-ahead .ensures) (c .before .ahead2 .given .1))
+sub-t26 : tie.Need-sub-t26
+sub-t26 c = omega (arith, nothing-slot values _ _ _ (c .before .before .before .before .map-ahead .ensures) (c .before .before .ahead2 .given .1))
 
 returns : tie.Need-returns
 unfolding stepNumbers yieldedNumbers stepOf
-returns c = said-span values _ _ _ (c .before .before .before .before .before .before .map-ahead .ensures) (λ v. v) (c .before .before .before .before .ahead .given .1) (c .before .before .offset-at .ensures) (c .before .len-at .ensures .0)
+returns c = said-span values _ _ _ (c .before .before .before .before .before .before .before .map-ahead .ensures) (λ v. v) (c .before .before .before .before .before .ahead .given .1) (c .before .before .before .offset-at .ensures) (c .before .before .len-at .ensures .0)
 
 returns-2 : tie.Need-returns-2
 unfolding stepNumbers yieldedNumbers stepOf
-returns-2 c = said-nothing values _ _ _ (c .before .before .before .map-ahead .ensures) _ (c .before .ahead2 .given .1)
+returns-2 c = said-nothing values _ _ _ (c .before .before .before .before .map-ahead .ensures) _ (c .before .before .ahead2 .given .1)
 
 returns-3 : tie.Need-returns-3
 unfolding stepNumbers yieldedNumbers stepOf
@@ -49,6 +49,6 @@ pub step-spec : {M : Type 1} → statement M
 step-spec =
     tie.close
     (tie.spec
-    (λ c κs. search needs) (λ c. search needs) (λ c κs. search needs) (λ c. search needs) len-at-requires (λ c. search needs) add-t17
-    mul-t19 shared-slice-read-t21 add-t23 sub-t24 (λ c. search needs) sub-t27 (λ c. search needs) (λ c. search needs) returns returns-2
+    (λ c κs. search needs) (λ c. search needs) (λ c κs. search needs) (λ c. search needs) len-at-requires (λ c. search needs) add-t16
+    mul-t18 shared-slice-read-t20 add-t22 sub-t23 (λ c. search needs) sub-t26 (λ c. search needs) (λ c. search needs) returns returns-2
     returns-3 returns-4)
