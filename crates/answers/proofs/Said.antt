@@ -3,11 +3,11 @@ use Prim.Native.Nat.{ℕ}
 use mathlib.Core.Path.{_≡_, refl}
 use lib.Dec.{eqb}
 use Rattle.model.specs.Calls.{Or, no, ok, Seen, found, absent, Spot, occupied, vacant}
-use Rattle.model.specs.Walk.{Paced, pair, nothing, done}
+use Rattle.model.specs.Walk.{StepAnswer, pair, nothing, done}
 use Rattle.model.specs.Demand1.{numberIn}
 use Rattle.model.proofs.Cases.{by-bool}
 use Rattle.answers.specs.declared.Numbers.{Numbers}
-use Rattle.answers.specs.Said.{doneSaid, countSaid, emptySaid, roomSaid, gotSaid, memberSaid, containedSaid, insertedSaid, addedSaid, removedSaid, droppedSaid, stepSaid, enteredSaid, heldSaid, swappedSaid, takenSaid, takenEntrySaid, standingSaid, storedSaid, joinedSaid, spannedSaid}
+use Rattle.answers.specs.Said.{doneSaid, countSaid, emptySaid, roomSaid, gotSaid, memberSaid, containedSaid, insertedSaid, addedSaid, removedSaid, droppedSaid, stepSaid, enteredSaid, heldSaid, swappedSaid, takenSaid, takenEntrySaid, inSlotSaid, storedSaid, joinedSaid, spannedSaid}
 
 pub doneSaid-refusal : {A : Type 0} (a : Or A) → doneSaid a .refusal ≡ numberIn a
 unfolding doneSaid numberIn
@@ -71,7 +71,7 @@ droppedSaid-refusal (no n) = refl
 droppedSaid-refusal (ok (found v i e)) = refl
 droppedSaid-refusal (ok (absent e)) = refl
 
-pub stepSaid-refusal : {K W : Type 0} (hand : K → W → ℕ → ℕ → Numbers) → ((k : K) (v : W) (x e : ℕ) → hand k v x e .refusal ≡ 0) → (w : ℕ) (a : Or (Paced K W)) → stepSaid hand w a .refusal ≡ numberIn a
+pub stepSaid-refusal : {K W : Type 0} (hand : K → W → ℕ → ℕ → Numbers) → ((k : K) (v : W) (x e : ℕ) → hand k v x e .refusal ≡ 0) → (w : ℕ) (a : Or (StepAnswer K W)) → stepSaid hand w a .refusal ≡ numberIn a
 unfolding stepSaid numberIn
 stepSaid-refusal hand h w (no n) = refl
 stepSaid-refusal hand h w (ok (pair k v x e)) = h k v x e
@@ -104,10 +104,10 @@ unfolding takenEntrySaid numberIn
 takenEntrySaid-refusal s (no n) = refl
 takenEntrySaid-refusal s (ok x) = refl
 
-pub standingSaid-refusal : (s : ℕ) (a : Or ℕ) → standingSaid s a .refusal ≡ numberIn a
-unfolding standingSaid numberIn
-standingSaid-refusal s (no n) = refl
-standingSaid-refusal s (ok x) = refl
+pub inSlotSaid-refusal : (s : ℕ) (a : Or ℕ) → inSlotSaid s a .refusal ≡ numberIn a
+unfolding inSlotSaid numberIn
+inSlotSaid-refusal s (no n) = refl
+inSlotSaid-refusal s (ok x) = refl
 
 pub storedSaid-refusal : (o : ℕ) (a : Or (Spot ℕ)) → storedSaid o a .refusal ≡ numberIn a
 unfolding storedSaid numberIn

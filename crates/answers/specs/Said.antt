@@ -4,7 +4,7 @@ use Prim.Native.Nat.{ℕ, _-_}
 use mathlib.Core.Bool.{cond}
 use lib.Dec.{eqb}
 use Rattle.model.specs.Calls.{Or, no, ok, Seen, found, absent, Spot, occupied, vacant}
-use Rattle.model.specs.Walk.{Paced, pair, nothing, done}
+use Rattle.model.specs.Walk.{StepAnswer, pair, nothing, done}
 use Rattle.answers.specs.Cases.{DONE, COUNT, EMPTY, HOLDS, ROOM, FOUND, PRESENT, ABSENT, FRESH, REPLACED, REMOVED, OCCUPIED, VACANT, PAIR, NOTHING, WALK-DONE, VALUE, WAS, NOW}
 use Rattle.answers.specs.declared.Numbers.{Numbers}
 
@@ -103,7 +103,7 @@ abbrev pub keyHanded : ℕ → Unit {0} → ℕ → ℕ → Numbers
 keyHanded k v x e = handed k 0 0 0 x e
 
 -- A walk's step from w: what it hands out, nothing or done, with the walk moved on; a refusal with the walk as it came.
-unfoldable pub stepSaid : {K W : Type 0} → (K → W → ℕ → ℕ → Numbers) → ℕ → Or (Paced K W) → Numbers
+unfoldable pub stepSaid : {K W : Type 0} → (K → W → ℕ → ℕ → Numbers) → ℕ → Or (StepAnswer K W) → Numbers
 stepSaid hand w (no n) = walked n 0 0 0 0 w
 stepSaid hand w (ok (pair k v x e)) = hand k v x e
 stepSaid hand w (ok (nothing x e)) = walked 0 NOTHING 0 0 e x
@@ -136,9 +136,9 @@ takenEntrySaid k (no n) = saidNo n
 takenEntrySaid k (ok v) = saidCase REMOVED k v 0 0
 
 -- A vacant handle's insert, or_insert and insert_entry, with the slot: the value now there.
-unfoldable pub standingSaid : ℕ → Or ℕ → Numbers
-standingSaid s (no n) = saidNo n
-standingSaid s (ok v) = saidCase NOW 0 v s 0
+unfoldable pub inSlotSaid : ℕ → Or ℕ → Numbers
+inSlotSaid s (no n) = saidNo n
+inSlotSaid s (ok v) = saidCase NOW 0 v s 0
 
 -- A byte map's insert, with the offset that a fresh key gets: fresh or replaced.
 unfoldable pub storedSaid : ℕ → Or (Spot ℕ) → Numbers

@@ -7,7 +7,7 @@ use native.Mathlib.Omega.{arith}
 use borrow.Author.Tests.{leb-true}
 use lib.Dec.{ltb, eqb}
 use lib.ListN.{length}
-use Rattle.model.specs.Path.{Find, hit, miss, hurt, at}
+use Rattle.model.specs.Path.{Find, hit, miss, damage, at}
 use Rattle.model.specs.Store.{path}
 use Rattle.model.proofs.Cases.{by-bool, clash}
 use Rattle.model.proofs.Path.{at-below, hit-at}
@@ -24,7 +24,7 @@ use Rattle.byte_slots.specs.declared.InsertPlan.the-variants as insertPlan
 use Rattle.byte_slots.specs.declared.RemovePlan.{RemovePlan}
 use Rattle.byte_slots.specs.declared.RemovePlan.the-variants as removePlan
 use Rattle.byte_slots.specs.Keys.{byteKeys}
-use Rattle.byte_slots.specs.Memory.{Spans, Strings, strings, bare, usedOf, harmful, fitting, askedOf, keptOf, liveAt}
+use Rattle.byte_slots.specs.Memory.{Spans, ByteMemory, byteStore, bare, usedOf, fullDamage, fitting, askedOf, keptOf, liveAt}
 use Rattle.byte_slots.specs.Planning.{insertPlanBy, roomFor, planningInsert, planningMapInsert, removePlanBy, planningRemove, planningMapRemove}
 use Rattle.byte_slots.specs.Probing.{pathOf}
 use Rattle.byte_slots.proofs.Sizes.{fitting-says}
@@ -50,7 +50,7 @@ remove-plan-hit v (probed.Refused a) q = clash cc
 
 module _ (s : Spans) (k : List ℕ) where
   -- the spans as a set
-  abbrev bareSet : Strings nothing
+  abbrev bareSet : ByteMemory nothing
   bareSet = record { spans = s; words = tt }
 
   aligned : fitting s ≡ true → (i : ℕ) → i < length (s .marks) → Aligned s i
@@ -60,20 +60,20 @@ module _ (s : Spans) (k : List ℕ) where
   inside f = home-below 0 (length (s .marks)) k (fitting-says s f .some)
 
   free-slot : fitting s ≡ true → {i e : ℕ} → pathOf s k ≡ probed.Free i e → i < length (s .marks)
-  free-slot f q = free-below (strings nothing) bareSet k (inside f) (path-is nothing bareSet k ∙ q)
+  free-slot f q = free-below (byteStore nothing) bareSet k (inside f) (path-is nothing bareSet k ∙ q)
 
   -- a slot that the path found is one of the table's, and live
   hit-live : fitting s ≡ true → {i e : ℕ} → pathOf s k ≡ probed.Hit i e → (i < length (s .marks)) × liveAt s i
   unfolding along path
-  hit-live f {i} {e} q = go (path (strings nothing) bareSet k) refl (path-is nothing bareSet k ∙ q)
+  hit-live f {i} {e} q = go (path (byteStore nothing) bareSet k) refl (path-is nothing bareSet k ∙ q)
     where
-      go : (x : Find (Unit {0})) → path (strings nothing) bareSet k ≡ x → along (length (s .marks)) (homeOf 0 (length (s .marks)) k) x ≡ probed.Hit i e → (i < length (s .marks)) × liveAt s i
+      go : (x : Find (Unit {0})) → path (byteStore nothing) bareSet k ≡ x → along (length (s .marks)) (homeOf 0 (length (s .marks)) k) x ≡ probed.Hit i e → (i < length (s .marks)) × liveAt s i
       go (hit n v) p w =
           let z : at (length (s .marks)) (homeOf 0 (length (s .marks)) k) n ≡ i = cc in
           let (l, h) = hit-at byteKeys (length (s .marks)) (homeOf 0 (length (s .marks)) k) (bare s) k n v p in
           rw (← z) (at-below (length (s .marks)) (homeOf 0 (length (s .marks)) k) n (inside f) l, live-says s (λ j. tt) _ k v h .0)
       go (miss a b) p w = by-bool (ltb b (length (s .marks))) (λ t. clash (cc (rw t at w))) (λ t. clash (cc (rw t at w)))
-      go hurt p w = clash cc
+      go damage p w = clash cc
 
   kept-short : eqb (keptOf k) 0 ≡ true → length k ≤ keyLimit
   unfolding keptOf askedOf
@@ -84,7 +84,7 @@ module _ (s : Spans) (k : List ℕ) where
   unfolding planningInsert roomFor
   plan-fillable {r} {i} {e} {u} p q = by-bool (fitting s)
       (λ f. by-bool (eqb (keptOf k) 0)
-      (λ a. by-bool (harmful s)
+      (λ a. by-bool (fullDamage s)
       (λ h. clash (cc (rw (f, a, h) at (sym p ∙ q))))
       (λ h.
       let (x, y, z) = insert-plan-free (usedOf s) (roomFor s k) (pathOf s k) (rw (f, a, h) at (sym p ∙ q)) in
@@ -103,7 +103,7 @@ module _ (s : Spans) (k : List ℕ) where
   unfolding planningRemove
   plan-freeable {r} {i} {e} {u} p q = by-bool (fitting s)
       (λ f. by-bool (eqb (askedOf k) 0)
-      (λ a. by-bool (harmful s)
+      (λ a. by-bool (fullDamage s)
       (λ h. clash (cc (rw (f, a, h) at (sym p ∙ q))))
       (λ h.
       let (x, z) = remove-plan-hit (usedOf s) (pathOf s k) (rw (f, a, h) at (sym p ∙ q)) in
@@ -114,7 +114,7 @@ module _ (s : Spans) (k : List ℕ) where
       (λ f. clash (cc (rw f at (sym p ∙ q))))
 
 -- The same of a map, whose slots then have a value too.
-module _ (m : Strings values) (k : List ℕ) where
+module _ (m : ByteMemory values) (k : List ℕ) where
   pub map-plan-insert-free : {r : InsertPlan} {i e u : ℕ} → r ≡ planningMapInsert m k → r ≡ insertPlan.Free i e u → Fillable (m .spans) i u k × (i < length (m .words))
   unfolding planningMapInsert
   map-plan-insert-free p q =

@@ -22,7 +22,7 @@ use Rattle.byte_slots.specs.declared.InsertPlan.{InsertPlan}
 use Rattle.byte_slots.specs.declared.InsertPlan.the-variants as insertPlan
 use Rattle.byte_slots.specs.declared.RemovePlan.{RemovePlan}
 use Rattle.byte_slots.specs.declared.RemovePlan.the-variants as removePlan
-use Rattle.byte_slots.specs.Memory.{Spans, Strings, filled, emptied, wiped}
+use Rattle.byte_slots.specs.Memory.{Spans, ByteMemory, filled, emptied, wiped}
 use Rattle.byte_slots.specs.Kinds.{maps, mapMemory, insertOf}
 use Rattle.byte_slots.specs.Planning.{planningMapInsert, planningMapRemove}
 use Rattle.byte_slots.proofs.Bridge.{spotOf, lostOf}
@@ -31,13 +31,13 @@ use Rattle.byte_slots.proofs.Planning.{entry-planned, remove-planned}
 use Rattle.byte_arena.proofs.Copies.{spans-copied}
 use Rattle.byte_arena.proofs.Plans.{map-plan-insert-free}
 
-module _ (m : Strings values) where
+module _ (m : ByteMemory values) where
   -- make and clear, by the test of the sizes
   pub make-done : {b : Bool} → b ≡ sizedOf maps m → b ≡ true → {s : Spans} {ws : List ℕ} → s ≡ wiped (m .spans) → ws ≡ replicate (length (m .words)) 0 → told (outcomeNumbers outcome.Done) (record { spans = s; words = ws }) ≡ makeOf maps m
   make-done p q x y = make-sized maps m (sized-as maps m p q) (rw (x, y))
 
   -- copy onto this map from another
-  pub copy-done : (n : Strings values) {b d : Bool} → b ≡ sizedOf maps m → b ≡ true → d ≡ sizedOf maps n → d ≡ true → length (m .spans .marks) ≡ length (n .spans .marks) → length (m .spans .arena) ≡ length (n .spans .arena) → {x y z v w : List ℕ} → x ≡ copied (m .spans .marks) (n .spans .marks) → y ≡ copied (m .spans .offsets) (n .spans .offsets) → z ≡ copied (m .spans .lengths) (n .spans .lengths) → v ≡ copied (m .words) (n .words) → w ≡ copied (m .spans .arena) (n .spans .arena) → told (outcomeNumbers outcome.Done) (mapMemory x y z v w) ≡ copyOf maps m n
+  pub copy-done : (n : ByteMemory values) {b d : Bool} → b ≡ sizedOf maps m → b ≡ true → d ≡ sizedOf maps n → d ≡ true → length (m .spans .marks) ≡ length (n .spans .marks) → length (m .spans .arena) ≡ length (n .spans .arena) → {x y z v w : List ℕ} → x ≡ copied (m .spans .marks) (n .spans .marks) → y ≡ copied (m .spans .offsets) (n .spans .offsets) → z ≡ copied (m .spans .lengths) (n .spans .lengths) → v ≡ copied (m .words) (n .words) → w ≡ copied (m .spans .arena) (n .spans .arena) → told (outcomeNumbers outcome.Done) (mapMemory x y z v w) ≡ copyOf maps m n
   copy-done n p q r s e f x y z v w =
       let (a, b, c) = same-long m p q in
       let (d, g, h) = same-long n r s in

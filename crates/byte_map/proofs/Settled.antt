@@ -7,10 +7,10 @@ use Rattle.kinds.specs.Columns.{values}
 use Rattle.kinds.specs.Told.{SettledWith}
 use Rattle.kinds.specs.Calls.{makeOf, copyOf, removeOf}
 use Rattle.kinds.proofs.Settled.{settled-with}
-use Rattle.byte_slots.specs.Memory.{Strings}
+use Rattle.byte_slots.specs.Memory.{ByteMemory}
 use Rattle.byte_slots.specs.Kinds.{maps, insertOf}
 
-module _ (m : Strings values) where
+module _ (m : ByteMemory values) where
   -- `make`.
   pub make-settled : SettledWith outcomeNumbers (makeOf maps m)
   make-settled = settled-with outcomeNumbers-injective
@@ -28,5 +28,5 @@ module _ (m : Strings values) where
   remove-settled k = settled-with removedNumbers-injective
 
   -- `copy`.
-  pub copy-settled : (from : Strings values) → SettledWith outcomeNumbers (copyOf maps m from)
+  pub copy-settled : (from : ByteMemory values) → SettledWith outcomeNumbers (copyOf maps m from)
   copy-settled from = settled-with outcomeNumbers-injective

@@ -11,13 +11,13 @@ use Rattle.answers.proofs.Told.{other-case}
 use Rattle.answers.specs.declared.Refusal.{Refusal}
 use Rattle.answers.specs.declared.Numbers.{Numbers}
 use Rattle.answers.specs.Refusals.{numberOf}
-use Rattle.answers.specs.Said.{heldSaid, swappedSaid, standingSaid}
-use Rattle.kinds.specs.Calls.{heldOf, setOf, standingOf, slotOf, orInsertOf, insertEntryOf}
+use Rattle.answers.specs.Said.{heldSaid, swappedSaid, inSlotSaid}
+use Rattle.kinds.specs.Calls.{heldOf, setOf, vacantInsertOf, slotOf, orInsertOf, insertEntryOf}
 use Rattle.kinds.specs.Columns.{values}
 use Rattle.kinds.specs.Told.{told}
 use Rattle.kinds.proofs.Told.{said, left, retold}
 use Rattle.byte_slots.specs.Kinds.{maps}
-use Rattle.byte_slots.specs.Memory.{Strings}
+use Rattle.byte_slots.specs.Memory.{ByteMemory}
 use Rattle.byte_map_occupied.specs.declared.Occupied.{Occupied}
 use Rattle.byte_map_occupied.specs.declared.Held.{Held}
 use Rattle.byte_map_occupied.specs.declared.Held.the-variants as held
@@ -68,15 +68,15 @@ unfolding swappedNumbers swappedSaid
 swapped-no s (no n) p q = ap no (sym (ap (λ n. n .refusal) (rw q at p)))
 swapped-no s (ok w) p q = other-case (rw q at p) refl
 
-module _ (m : Strings values) (k : List ℕ) (v : ℕ) (a : Entered) where
+module _ (m : ByteMemory values) (k : List ℕ) (v : ℕ) (a : Entered) where
   -- everything but occupied: the vacant handle's insert
-  module _ {s : ℕ} {n : Numbers} {m′ : Strings values} (t : (tagOf the-type a ≡ 1) ⊎ (tagOf the-type a ≡ 2)) (p : s ≡ vacantSlotOf (length (m .spans .marks)) a) (q : told n m′ ≡ standingOf maps m s k v) where
+  module _ {s : ℕ} {n : Numbers} {m′ : ByteMemory values} (t : (tagOf the-type a ≡ 1) ⊎ (tagOf the-type a ≡ 2)) (p : s ≡ vacantSlotOf (length (m .spans .marks)) a) (q : told n m′ ≡ vacantInsertOf maps m s k v) where
     pub or-insert-vacant : told n m′ ≡ orInsertOf maps m (handleOf (length (m .spans .marks)) a) k v
-    unfolding orInsertOf standingOf or-insert after-or-insert slotOf
+    unfolding orInsertOf vacantInsertOf or-insert after-or-insert slotOf
     or-insert-vacant = rw (not-occupied (length (m .spans .marks)) a t, ← p) q
 
     pub insert-entry-vacant : told n m′ ≡ insertEntryOf maps m (handleOf (length (m .spans .marks)) a) k v
-    unfolding insertEntryOf standingOf insert-entry after-insert-entry slotOf
+    unfolding insertEntryOf vacantInsertOf insert-entry after-insert-entry slotOf
     insert-entry-vacant = rw (not-occupied (length (m .spans .marks)) a t, ← p) q
 
   module _ {h : Occupied} {w e : ℕ} (o : a ≡ entered.Occupied h w e) where
@@ -87,19 +87,19 @@ module _ (m : Strings values) (k : List ℕ) (v : ℕ) (a : Entered) where
     -- occupied: the handle's get
     module _ {r : Held} (p : heldNumbers r ≡ heldOf maps m (h .slot) k) where
       pub or-insert-kept : {x : ℕ} {g : Occupied} → r ≡ held.Value x g → told (inSlotNumbers (inSlot.Now h x)) m ≡ orInsertOf maps m (handleOf (length (m .spans .marks)) a) k v
-      unfolding heldOf orInsertOf or-insert after-or-insert slotOf inSlotNumbers standingSaid
+      unfolding heldOf orInsertOf or-insert after-or-insert slotOf inSlotNumbers inSlotSaid
       or-insert-kept q = rw (on, held-ok (h .slot) (occupied-get maps m (h .slot) k) p q)
 
       pub or-insert-refused : {x : Refusal} → r ≡ held.Refused x → told (inSlotNumbers (inSlot.Refused x)) m ≡ orInsertOf maps m (handleOf (length (m .spans .marks)) a) k v
-      unfolding heldOf orInsertOf or-insert after-or-insert slotOf inSlotNumbers standingSaid
+      unfolding heldOf orInsertOf or-insert after-or-insert slotOf inSlotNumbers inSlotSaid
       or-insert-refused q = rw (on, held-no (h .slot) (occupied-get maps m (h .slot) k) p q)
 
     -- or its set
-    module _ {r : Swapped} {m′ : Strings values} (p : told (swappedNumbers r) m′ ≡ setOf maps m (h .slot) k v) where
+    module _ {r : Swapped} {m′ : ByteMemory values} (p : told (swappedNumbers r) m′ ≡ setOf maps m (h .slot) k v) where
       pub insert-entry-set : {x : ℕ} {g : Occupied} → r ≡ swapped.Was x g → told (inSlotNumbers (inSlot.Now h v)) m′ ≡ insertEntryOf maps m (handleOf (length (m .spans .marks)) a) k v
-      unfolding setOf insertEntryOf insert-entry after-insert-entry slotOf give inSlotNumbers standingSaid
+      unfolding setOf insertEntryOf insert-entry after-insert-entry slotOf give inSlotNumbers inSlotSaid
       insert-entry-set q = rw on (retold (rw (swapped-ok (h .slot) (occupied-get maps m (h .slot) k) (said p) q)) (left p))
 
       pub insert-entry-refused : {x : Refusal} → r ≡ swapped.Refused x → told (inSlotNumbers (inSlot.Refused x)) m′ ≡ insertEntryOf maps m (handleOf (length (m .spans .marks)) a) k v
-      unfolding setOf insertEntryOf insert-entry after-insert-entry slotOf give inSlotNumbers standingSaid
+      unfolding setOf insertEntryOf insert-entry after-insert-entry slotOf give inSlotNumbers inSlotSaid
       insert-entry-refused q = rw on (retold (rw (swapped-no (h .slot) (occupied-get maps m (h .slot) k) (said p) q)) (left p))

@@ -11,14 +11,14 @@ use Rattle.kinds.specs.Calls.{entryOf}
 use Rattle.byte_slots.specs.declared.InsertPlan.{InsertPlan}
 use Rattle.byte_slots.specs.declared.InsertPlan.the-variants as insertPlan
 use Rattle.byte_slots.specs.Kinds.{maps}
-use Rattle.byte_slots.specs.Memory.{Strings}
+use Rattle.byte_slots.specs.Memory.{ByteMemory}
 use Rattle.byte_slots.proofs.Bridge.{spotOf}
 use Rattle.byte_slots.specs.Planning.{planningMapInsert}
 use Rattle.byte_slots.proofs.Planning.{entry-planned}
 use Rattle.byte_map_entry.specs.declared.Entered.the-variants as entered
 use Rattle.byte_map_entry.specs.Numbers.{enteredNumbers}
 
-module _ (m : Strings values) (k : List ℕ) {r : InsertPlan} (p : r ≡ planningMapInsert m k) where
+module _ (m : ByteMemory values) (k : List ℕ) {r : InsertPlan} (p : r ≡ planningMapInsert m k) where
   planned : {x : InsertPlan} → r ≡ x → entry maps m k ≡ spotOf (λ i. getD (m .words) i 0) x
   planned q = rw (← q, p) (entry-planned m k)
 

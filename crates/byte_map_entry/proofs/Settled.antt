@@ -7,7 +7,7 @@ use Rattle.kinds.specs.Columns.{values}
 use Rattle.kinds.specs.Told.{Settled, SettledWith}
 use Rattle.kinds.proofs.Settled.{settled, settled-with}
 use Rattle.byte_slots.specs.Kinds.{maps}
-use Rattle.byte_slots.specs.Memory.{Strings}
+use Rattle.byte_slots.specs.Memory.{ByteMemory}
 use Rattle.byte_map_vacant.specs.Numbers.{inSlotNumbers}
 use Rattle.byte_map_vacant.proofs.Equal.{inSlotNumbers-injective}
 use Rattle.byte_map_entry.specs.declared.Entered.{Entered}
@@ -15,7 +15,7 @@ use Rattle.byte_map_entry.specs.Numbers.{enteredNumbers}
 use Rattle.byte_map_entry.specs.Calls.{handleOf}
 use Rattle.byte_map_entry.proofs.Equal.{enteredNumbers-injective}
 
-module _ (m : Strings values) where
+module _ (m : ByteMemory values) where
   -- `entry`.
   pub entry-settled : (k : List ℕ) → Settled enteredNumbers (entryOf maps m k)
   entry-settled k = settled enteredNumbers-injective

@@ -14,7 +14,7 @@ use Rattle.answers.specs.declared.Refusal.the-variants.{Sizes, LongKey, Damaged
 use Rattle.answers.specs.Refusals.{numberOf}
 use Rattle.answers.specs.Said.{takenSaid}
 use Rattle.kinds.specs.declared.Sight.{Sight}
-use Rattle.kinds.specs.declared.Sight.the-variants.{Never, Freed, Bad, Same, Other}
+use Rattle.kinds.specs.declared.Sight.the-variants.{Never, Freed, Damaged, Same, Other}
 use Rattle.kinds.specs.Calls.{sizedOf, takenOf}
 use Rattle.kinds.specs.Columns.{values}
 use Rattle.kinds.specs.Marks.{cell}
@@ -25,7 +25,7 @@ use Rattle.byte_slots.specs.declared.Surveyed.the-variants as surveyed
 use Rattle.byte_slots.specs.Keys.{byteKeys}
 use Rattle.byte_slots.specs.Kinds.{maps}
 use Rattle.byte_slots.specs.Marks.{markAt}
-use Rattle.byte_slots.specs.Memory.{Spans, Strings, keyAt, usedOf, harmful, fitting, askedOf, emptied, liveAt}
+use Rattle.byte_slots.specs.Memory.{Spans, ByteMemory, keyAt, usedOf, fullDamage, fitting, askedOf, emptied, liveAt}
 use Rattle.byte_slots.specs.Probing.{sightAt}
 use Rattle.byte_slots.specs.Surveying.{surveying}
 use Rattle.byte_slots.proofs.Bridge.{asked-no}
@@ -70,7 +70,7 @@ held-same i w u v x Bad e = clash cc
 held-same i w u v x Same e = (refl, cc)
 held-same i w u v x Other e = clash cc
 
-module _ (m : Strings values) (i : ℕ) (k : List ℕ) where
+module _ (m : ByteMemory values) (i : ℕ) (k : List ℕ) where
   -- the plan, as the code makes it
   module _ {b : Bool} (p : b ≡ sizedOf maps m) where
     pub removal-unfit : b ≡ false → removalPlan.Refused Sizes ≡ planningRemoval m i k
@@ -83,7 +83,7 @@ module _ (m : Strings values) (i : ℕ) (k : List ℕ) where
       removal-long e = rw (sym p ∙ q, sym w ∙ e)
 
       module _ (e : t ≡ true) {r : Surveyed} (v : r ≡ surveying (m .spans)) where
-        pub removal-bad : r ≡ surveyed.Bad → removalPlan.Refused Damaged ≡ planningRemoval m i k
+        pub removal-bad : r ≡ surveyed.Damaged → removalPlan.Refused Damaged ≡ planningRemoval m i k
         unfolding planningRemoval
         removal-bad x = rw (sym p ∙ q, sym w ∙ e, surveyed-bad (m .spans) v x)
 
@@ -96,7 +96,7 @@ module _ (m : Strings values) (i : ℕ) (k : List ℕ) where
   unfolding occupied-remove planningRemoval sizedOf need pass
   remove-planned = by-bool (fitting (m .spans) && eqb (length (m .spans .marks)) (length (m .words)))
       (λ f. rw f (by-bool (eqb (askedOf k) 0)
-      (λ a. rw (a, eqb-true (askedOf k) 0 a) (by-bool (harmful (m .spans))
+      (λ a. rw (a, eqb-true (askedOf k) 0 a) (by-bool (fullDamage (m .spans))
       (λ h. rw h)
       (λ h. rw h (grip-value m i k ∙ removal-value (usedOf (m .spans)) (valueIn m i k)))))
       (λ a. rw (a, asked-no k a))))
@@ -116,7 +116,7 @@ module _ (m : Strings values) (i : ℕ) (k : List ℕ) where
   unfolding planningRemoval
   freeable q = by-bool (sizedOf maps m)
       (λ f. by-bool (eqb (askedOf k) 0)
-      (λ a. by-bool (harmful (m .spans))
+      (λ a. by-bool (fullDamage (m .spans))
       (λ h. clash (cc (rw (f, a, h) at q)))
       (λ h.
       let (l, n, z) = out-live (rw (f, a, h) at q) in

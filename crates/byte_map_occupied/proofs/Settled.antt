@@ -6,11 +6,11 @@ use Rattle.kinds.specs.Columns.{values}
 use Rattle.kinds.specs.Told.{Settled, SettledWith}
 use Rattle.kinds.proofs.Settled.{settled, settled-with}
 use Rattle.byte_slots.specs.Kinds.{maps}
-use Rattle.byte_slots.specs.Memory.{Strings}
+use Rattle.byte_slots.specs.Memory.{ByteMemory}
 use Rattle.byte_map_occupied.specs.Numbers.{heldNumbers, swappedNumbers, takenNumbers}
 use Rattle.byte_map_occupied.proofs.Equal.{heldNumbers-injective, swappedNumbers-injective, takenNumbers-injective}
 
-module _ (m : Strings values) where
+module _ (m : ByteMemory values) where
   -- `Occupied::get`.
   pub get-settled : (s : ℕ) (k : List ℕ) → Settled heldNumbers (heldOf maps m s k)
   get-settled s k = settled heldNumbers-injective

@@ -7,14 +7,14 @@ use native.Mathlib.Omega.{arith}
 use borrow.Author.Tests.{lt-ltb, le-ltb, eqb-true}
 use lib.Dec.{eqb}
 use lib.ListN.{length, getD, set}
-use Rattle.model.specs.Calls.{Or, no, ok, need, pass, gripOn, grip, occupied-get, after-set, acted}
+use Rattle.model.specs.Calls.{Or, no, ok, need, pass, heldOn, heldAt, occupied-get, after-set, acted}
 use Rattle.model.proofs.Cases.{by-bool, by-lt, clash}
 use Rattle.answers.specs.declared.Refusal.{Refusal}
 use Rattle.answers.specs.declared.Refusal.the-variants.{Sizes, LongKey, BadHandle}
 use Rattle.answers.specs.Refusals.{numberOf}
 use Rattle.answers.specs.Said.{heldSaid, swappedSaid}
 use Rattle.kinds.specs.declared.Sight.{Sight}
-use Rattle.kinds.specs.declared.Sight.the-variants.{Never, Freed, Bad, Same, Other}
+use Rattle.kinds.specs.declared.Sight.the-variants.{Never, Freed, Damaged, Same, Other}
 use Rattle.kinds.specs.Calls.{sizedOf, heldOf, setOf}
 use Rattle.kinds.specs.Columns.{values}
 use Rattle.kinds.specs.Marks.{cell}
@@ -23,7 +23,7 @@ use Rattle.kinds.specs.Told.{told}
 use Rattle.byte_slots.specs.Keys.{sameBytes}
 use Rattle.byte_slots.specs.Kinds.{maps}
 use Rattle.byte_slots.specs.Marks.{markAt}
-use Rattle.byte_slots.specs.Memory.{Strings, keyAt, fitting, askedOf}
+use Rattle.byte_slots.specs.Memory.{ByteMemory, keyAt, fitting, askedOf}
 use Rattle.byte_slots.specs.Probing.{sightAt}
 use Rattle.byte_slots.proofs.Bridge.{asked-no}
 use Rattle.byte_slots.proofs.Marks.{slot-cell}
@@ -41,8 +41,8 @@ valueOf (held.Value v h) = ok v
 valueOf (held.Refused r) = no (numberOf r)
 
 -- what a slot with this mark and key says to the handle is what it says to the path
-value-cell : (i : ℕ) (a k : List ℕ) (v m : ℕ) → gripOn maps k (cell m a v) ≡ valueOf (heldBy i v (lookOf (maps .keys) k m a))
-unfolding gripOn cell lookOf lookAt heldBy need
+value-cell : (i : ℕ) (a k : List ℕ) (v m : ℕ) → heldOn maps k (cell m a v) ≡ valueOf (heldBy i v (lookOf (maps .keys) k m a))
+unfolding heldOn cell lookOf lookAt heldBy need
 value-cell i a k v zero = refl
 value-cell i a k v (suc zero) = by-bool (sameBytes a k) (λ e. rw e) (λ e. rw e)
 value-cell i a k v (suc (suc zero)) = refl
@@ -57,7 +57,7 @@ held-slot i v w Bad e = clash cc
 held-slot i v w Same e = cc
 held-slot i v w Other e = clash cc
 
-module _ (m : Strings values) (i : ℕ) (k : List ℕ) where
+module _ (m : ByteMemory values) (i : ℕ) (k : List ℕ) where
   -- the handle's test, as the code makes it
   pub value-look : {s : Sight} {r : Held} → i < length (m .spans .marks) → s ≡ sightAt (m .spans) k i → r ≡ heldBy i (getD (m .words) i 0) s → r ≡ valueIn m i k
   unfolding valueIn
@@ -68,8 +68,8 @@ module _ (m : Strings values) (i : ℕ) (k : List ℕ) where
   value-beyond l = rw (le-ltb i (length (m .spans .marks)) l)
 
   -- and in the theory
-  pub grip-value : grip maps m i k ≡ valueOf (valueIn m i k)
-  unfolding grip valueIn need sightAt
+  pub grip-value : heldAt maps m i k ≡ valueOf (valueIn m i k)
+  unfolding heldAt valueIn need sightAt
   grip-value = by-lt i (length (m .spans .marks))
       (λ l e. rw (e, slot-cell (m .spans) (λ j. getD (m .words) j 0) i) (value-cell i (keyAt (m .spans) i) k (getD (m .words) i 0) (markAt (m .spans) i)))
       (λ l e. rw e)

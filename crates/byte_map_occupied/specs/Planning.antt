@@ -6,10 +6,10 @@ use lib.Dec.{eqb, ltb}
 use lib.ListN.{length, getD}
 use Rattle.answers.specs.declared.Refusal.the-variants as refusal
 use Rattle.kinds.specs.declared.Sight.{Sight}
-use Rattle.kinds.specs.declared.Sight.the-variants.{Never, Freed, Bad, Same, Other}
+use Rattle.kinds.specs.declared.Sight.the-variants.{Never, Freed, Damaged, Same, Other}
 use Rattle.kinds.specs.Columns.{values}
 use Rattle.byte_slots.specs.Kinds.{maps}
-use Rattle.byte_slots.specs.Memory.{Strings, usedOf, harmful, askedOf}
+use Rattle.byte_slots.specs.Memory.{ByteMemory, usedOf, fullDamage, askedOf}
 use Rattle.byte_slots.specs.Probing.{sightAt}
 use Rattle.kinds.specs.Calls.{sizedOf}
 use Rattle.byte_map_occupied.specs.declared.Held.{Held}
@@ -26,11 +26,11 @@ heldBy i v Same = held.Value v (record { slot = i })
 heldBy i v Other = held.Refused refusal.BadHandle
 
 -- The same of any slot number: a handle of S or above is not good.
-unfoldable pub valueIn : Strings values → ℕ → List ℕ → Held
+unfoldable pub valueIn : ByteMemory values → ℕ → List ℕ → Held
 valueIn m i k = cond (ltb i (length (m .spans .marks))) (heldBy i (getD (m .words) i 0) (sightAt (m .spans) k i)) (held.Refused refusal.BadHandle)
 
 -- The plan of an occupied handle's get and set: refusals 1 and 2, then what the slot says.
-unfoldable pub valueFor : Strings values → ℕ → List ℕ → Held
+unfoldable pub valueFor : ByteMemory values → ℕ → List ℕ → Held
 valueFor m i k =
     cond (sizedOf maps m)
     (cond (eqb (askedOf k) 0) (valueIn m i k) (held.Refused refusal.LongKey))
@@ -42,10 +42,10 @@ removalPlanBy u (held.Value v h) = removalPlan.Out v u
 removalPlanBy u (held.Refused r) = removalPlan.Refused r
 
 -- The plan of an occupied handle's removal: refusals 1, 2 and 5, then what the slot says.
-unfoldable pub planningRemoval : Strings values → ℕ → List ℕ → RemovalPlan
+unfoldable pub planningRemoval : ByteMemory values → ℕ → List ℕ → RemovalPlan
 planningRemoval m i k =
     cond (sizedOf maps m)
     (cond (eqb (askedOf k) 0)
-    (cond (harmful (m .spans)) (removalPlan.Refused refusal.Damaged) (removalPlanBy (usedOf (m .spans)) (valueIn m i k)))
+    (cond (fullDamage (m .spans)) (removalPlan.Refused refusal.Damaged) (removalPlanBy (usedOf (m .spans)) (valueIn m i k)))
     (removalPlan.Refused refusal.LongKey))
     (removalPlan.Refused refusal.Sizes)

@@ -54,7 +54,7 @@ fn held_by(sight: Sight, slot: usize, value: u64) -> Held
     match sight {
         Sight::Never => Held::Refused(Refusal::BadHandle),
         Sight::Freed => Held::Refused(Refusal::BadHandle),
-        Sight::Bad => Held::Refused(Refusal::Damaged),
+        Sight::Damaged => Held::Refused(Refusal::Damaged),
         Sight::Same => Held::Value(value, Occupied { slot }),
         Sight::Other => Held::Refused(Refusal::BadHandle),
     }
@@ -131,7 +131,7 @@ fn plan_removal(
                     let held = value_in(marks, offsets, lengths, values, arena, slot, key);
                     return removal_plan_by(held, used);
                 }
-                Surveyed::Bad => return RemovalPlan::Refused(Refusal::Damaged),
+                Surveyed::Damaged => return RemovalPlan::Refused(Refusal::Damaged),
             }
         }
         return RemovalPlan::Refused(Refusal::LongKey);

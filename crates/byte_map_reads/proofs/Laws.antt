@@ -21,7 +21,7 @@ use Rattle.kinds.specs.Calls.{capacityOf, lenOf, isEmptyOf, reserveOf, getOf, c
 use Rattle.kinds.proofs.Beside.{Beside}
 use Rattle.kinds.proofs.Bridge.{seenOf}
 use Rattle.kinds.proofs.Sizing.{capacity-unsized, len-unsized, empty-unsized, reserve-unsized, contains-unsized}
-use Rattle.byte_slots.specs.Memory.{Strings}
+use Rattle.byte_slots.specs.Memory.{ByteMemory}
 use Rattle.byte_slots.specs.Kinds.{maps, sets}
 use Rattle.byte_slots.specs.Seeking.{probingMap}
 use Rattle.byte_slots.proofs.Beside.{beside-set, contains-set}
@@ -29,7 +29,7 @@ use Rattle.byte_slots.proofs.MapSizes.{map-short}
 use Rattle.byte_slots.proofs.Seeking.{get-probed}
 use Rattle.byte_slots.proofs.Sets.{setOf}
 
-module _ (m : Strings values) where
+module _ (m : ByteMemory values) where
   -- as many values as marks: the keys' set tells the same
   module _ (e : length (m .spans .marks) ≡ length (m .words)) where
     pub as-set : Beside maps sets m (setOf (m .spans))

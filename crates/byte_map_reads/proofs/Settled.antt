@@ -7,10 +7,10 @@ use Rattle.kinds.specs.Columns.{values}
 use Rattle.kinds.specs.Told.{Settled}
 use Rattle.kinds.specs.Calls.{capacityOf, lenOf, isEmptyOf, reserveOf, getOf, containsOf}
 use Rattle.kinds.proofs.Settled.{settled}
-use Rattle.byte_slots.specs.Memory.{Strings}
+use Rattle.byte_slots.specs.Memory.{ByteMemory}
 use Rattle.byte_slots.specs.Kinds.{maps}
 
-module _ (m : Strings values) where
+module _ (m : ByteMemory values) where
   -- `capacity`.
   pub capacity-settled : Settled countedNumbers (capacityOf maps m)
   capacity-settled = settled countedNumbers-injective

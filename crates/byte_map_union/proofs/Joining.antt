@@ -16,7 +16,7 @@ use Rattle.answers.specs.Said.{doneSaid}
 use Rattle.kinds.specs.Calls.{unionOf}
 use Rattle.kinds.specs.Columns.{values}
 use Rattle.kinds.specs.Told.{told}
-use Rattle.byte_slots.specs.Memory.{Strings, usedOf, fitting}
+use Rattle.byte_slots.specs.Memory.{ByteMemory, usedOf, fitting}
 use Rattle.byte_slots.specs.Kinds.{maps}
 use Rattle.byte_slots.proofs.Sizes.{fitting-says}
 use Rattle.byte_map_union.specs.declared.Planned.{Planned}
@@ -36,7 +36,7 @@ unfolding give
 give-no v n (no m) e = let z : n ≡ m = cc in ap no (sym z)
 give-no v n (ok a) e = clash cc
 
-module _ (l r : Strings values) {a : Planned} (p : planned a ≡ planOf l r) where
+module _ (l r : ByteMemory values) {a : Planned} (p : planned a ≡ planOf l r) where
   plan-go : {u : ℕ} → a ≡ Go u → (x : Unit {0}) × (union maps l r ≡ ok x) × (u ≡ usedOf (l .spans))
   unfolding planned planOf
   plan-go {u} q = give-ok (usedOf (l .spans)) u (union maps l r) (rw q at p)
@@ -53,7 +53,7 @@ module _ (l r : Strings values) {a : Planned} (p : planned a ≡ planOf l r) whe
       (record { room = union-roomy maps steady l r x e; used = d }, sym (eqb-true (length (r .spans .marks)) (length (r .words)) i), z .few, z .offsets, z .lengths)
 
   -- and then all pairs go in
-  pub union-done : {u : ℕ} {m : Strings values} → a ≡ Go u → m ≡ allStored l r (length (r .spans .marks)) → told (outcomeNumbers outcome.Done) m ≡ unionOf maps l r
+  pub union-done : {u : ℕ} {m : ByteMemory values} → a ≡ Go u → m ≡ allStored l r (length (r .spans .marks)) → told (outcomeNumbers outcome.Done) m ≡ unionOf maps l r
   unfolding unionOf after-union allStored pairsOf acted doneSaid outcomeNumbers
   union-done q e = let (x, d, w) = plan-go q in rw d (ap (λ m. told (outcomeNumbers outcome.Done) m) e)
 

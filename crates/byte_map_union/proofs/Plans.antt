@@ -6,16 +6,16 @@ use mathlib.Core.Path.{_≡_, refl, sym, _∙_, ap, fun-ext}
 use lib.Dec.{ltb}
 use lib.ListN.{length}
 use Rattle.model.specs.Slots.{weigh, total, count}
-use Rattle.model.specs.Path.{Find, hit, miss, hurt}
-use Rattle.model.specs.Store.{path, live-count, hurtful}
-use Rattle.model.specs.Calls.{Or, need, give, missed, lacking, needs, ruined, union}
+use Rattle.model.specs.Path.{Find, hit, miss, damage}
+use Rattle.model.specs.Store.{path, live-count, damagedSlots}
+use Rattle.model.specs.Calls.{Or, need, give, missed, lacking, needs, anyDamage, union}
 use Rattle.model.proofs.Cases.{by-bool}
 use Rattle.answers.specs.declared.Refusal.the-variants.{Sizes}
 use Rattle.digest.specs.Home.{homeOf}
 use Rattle.kinds.specs.Columns.{values}
 use Rattle.kinds.specs.Marks.{cell}
 use Rattle.kinds.specs.Probing.{along}
-use Rattle.byte_slots.specs.Memory.{Spans, Strings, keyAt, slotsOf, bare, harmful, fitting}
+use Rattle.byte_slots.specs.Memory.{Spans, ByteMemory, keyAt, slotsOf, bare, fullDamage, fitting}
 use Rattle.byte_slots.specs.Marks.{markAt}
 use Rattle.byte_slots.specs.Kinds.{maps}
 use Rattle.byte_slots.specs.Probing.{pathOf}
@@ -36,9 +36,9 @@ missed-along : (S h : ℕ) (x : Find ℕ) → missed maps x ≡ missing (along S
 unfolding missed along missing
 missed-along S h (hit n v) = refl
 missed-along S h (miss e f) = by-bool (ltb f S) (λ t. rw t) (λ t. rw t)
-missed-along S h hurt = refl
+missed-along S h damage = refl
 
-lacking-is : (m : Strings values) (k : List ℕ) → lacking maps m k ≡ missing (pathOf (m .spans) k)
+lacking-is : (m : ByteMemory values) (k : List ℕ) → lacking maps m k ≡ missing (pathOf (m .spans) k)
 unfolding lacking
 lacking-is m k = missed-along (length (m .spans .marks)) (homeOf 0 (length (m .spans .marks)) k) (path maps m k) ∙ ap missing (path-is values m k)
 
@@ -56,21 +56,21 @@ total-bare g s read zero = refl
 total-bare g s read (suc n) = rw (total-bare g s read n, slot-cell s read n, slot-cell s (λ i. tt {0}) n, weigh-bare g (markAt s n) (keyAt s n) (read n))
 
 -- what the union needs, over the spans
-needs-are : (g : List ℕ → ℕ) (l r : Strings values) → needs maps g l r ≡ total (lackOf (l .spans) g) (bare (r .spans)) (length (r .spans .marks))
+needs-are : (g : List ℕ → ℕ) (l r : ByteMemory values) → needs maps g l r ≡ total (lackOf (l .spans) g) (bare (r .spans)) (length (r .spans .marks))
 unfolding needs lackOf
 needs-are g l r =
     let e : _≡_ {A = List ℕ → ℕ} (λ k. cond (lacking maps l k) (g k) 0) (λ k. cond (missing (pathOf (l .spans) k)) (g k) 0) = fun-ext (λ k. rw (lacking-is l k)) in
     rw e (total-bare (λ k. cond (missing (pathOf (l .spans) k)) (g k) 0) (r .spans) (values .read (r .words)) (length (r .spans .marks)))
 
-live-is : (m : Strings values) → live-count maps m ≡ count (bare (m .spans)) (length (m .spans .marks))
+live-is : (m : ByteMemory values) → live-count maps m ≡ count (bare (m .spans)) (length (m .spans .marks))
 unfolding live-count
 live-is m = total-bare (λ k. 1) (m .spans) (values .read (m .words)) (length (m .spans .marks))
 
 -- full damage is the damage that the union looks for
-ruined-is : (m : Strings values) → ruined maps m ≡ harmful (m .spans)
-unfolding ruined hurtful
-ruined-is m = by-bool (harmful (m .spans))
-    (λ h. rw h (by-bool (hurtful maps m) (λ t. rw t) (λ t. rw t)))
+ruined-is : (m : ByteMemory values) → anyDamage maps m ≡ fullDamage (m .spans)
+unfolding anyDamage damagedSlots
+ruined-is m = by-bool (fullDamage (m .spans))
+    (λ h. rw h (by-bool (damagedSlots maps m) (λ t. rw t) (λ t. rw t)))
     (λ h. rw (h, bare-damaged (m .spans) (values .read (m .words)) (length (m .spans .marks)), unharmed-whole (m .spans) h))
 
 -- an answer's value behind a test
@@ -79,7 +79,7 @@ unfolding give need
 give-need v true n a = refl
 give-need v false n a = refl
 
-module _ (l r : Strings values) {b : Bool} (p : b ≡ sizedOf maps l) where
+module _ (l r : ByteMemory values) {b : Bool} (p : b ≡ sizedOf maps l) where
   -- sizes
   pub left-unfit : b ≡ false → planned (Refused Sizes) ≡ planOf l r
   unfolding planned planOf union need give sizedOf

@@ -7,7 +7,7 @@ use native.Mathlib.Numerals.{add-one}
 use native.Mathlib.Omega.{arith}
 use borrow.Author.Tests.{le-leb, lt-leb, ne-eqb}
 use lib.ListN.{length, getD}
-use Rattle.model.specs.Slots.{weigh, hurts, total, count, damaged}
+use Rattle.model.specs.Slots.{weigh, isDamaged, total, count, anyDamaged}
 use Rattle.model.specs.Calls.{need}
 use Rattle.model.proofs.Cases.{by-bool, by-lt, clash}
 use Rattle.answers.specs.declared.Refusal.the-variants.{Damaged, NoSlot, NoBytes}
@@ -34,17 +34,17 @@ cell-counts (suc (suc zero)) k = refl
 cell-counts (suc (suc (suc m))) k = rw (ne-eqb (suc (suc (suc m))) 1 (omega arith))
 
 -- a slot that is not damaged shows its mark
-whole-mark : (s : Spans) (i : ℕ) → hurts (bare s i) ≡ false → markAt s i ≡ getD (s .marks) i 0
-unfolding hurts
+whole-mark : (s : Spans) (i : ℕ) → isDamaged (bare s i) ≡ false → markAt s i ≡ getD (s .marks) i 0
+unfolding isDamaged
 whole-mark s i h = by-lt 2 (markAt s i)
     (λ l e. let z : true ≡ false = rw (slot-cell s (λ j. tt {0}) i, cell-bad (markAt s i) (keyAt s i) (tt {0}) l) at h in clash cc)
     (λ l e. mark-raw s i l)
 
 -- so where none is damaged, the marks count the live slots
-marks-count : (s : Spans) (n : ℕ) → damaged (bare s) n ≡ false → count (bare s) n ≡ liveMarks (s .marks) n
-unfolding total damaged liveMarks
+marks-count : (s : Spans) (n : ℕ) → anyDamaged (bare s) n ≡ false → count (bare s) n ≡ liveMarks (s .marks) n
+unfolding total anyDamaged liveMarks
 marks-count s zero h = refl
-marks-count s (suc n) h = by-bool (hurts (bare s n))
+marks-count s (suc n) h = by-bool (isDamaged (bare s n))
     (λ e. let z : true ≡ false = rw e at h in clash cc)
     (λ e. rw (marks-count s n (rw e at h), slot-cell s (λ j. tt {0}) n, cell-counts (markAt s n) (keyAt s n), whole-mark s n e))
 
@@ -80,13 +80,13 @@ used-inside s p q = let (h, e) = surveyed-used s p q in omega (arith, used-withi
 
 module _ (l r : Spans) {x : Surveyed} (p : x ≡ surveying l) where
   -- damage in the left
-  pub left-bad : x ≡ surveyed.Bad → planned (Refused Damaged) ≡ roomOf l r
+  pub left-bad : x ≡ surveyed.Damaged → planned (Refused Damaged) ≡ roomOf l r
   unfolding planned roomOf need
   left-bad t = rw (surveyed-bad l p t)
 
   module _ {u : ℕ} (q : x ≡ surveyed.Used u) {y : Surveyed} (s : y ≡ surveying r) where
     -- or in the right
-    pub right-bad : y ≡ surveyed.Bad → planned (Refused Damaged) ≡ roomOf l r
+    pub right-bad : y ≡ surveyed.Damaged → planned (Refused Damaged) ≡ roomOf l r
     unfolding planned roomOf need
     right-bad t = rw (surveyed-used l p q .0, surveyed-bad r s t)
 

@@ -8,7 +8,7 @@ use borrow.Author.Tests.{eqb-true}
 use lib.Dec.{ltb, eqb}
 use lib.ListN.{length, set}
 use Rattle.model.specs.Slots.{frees}
-use Rattle.model.specs.Path.{Find, hit, miss, hurt}
+use Rattle.model.specs.Path.{Find, hit, miss, damage}
 use Rattle.model.specs.Store.{path, slotAt, used}
 use Rattle.model.specs.Calls.{ruleBy, rule}
 use Rattle.model.specs.Lawful.{Steady}
@@ -21,13 +21,13 @@ use Rattle.kinds.specs.declared.Probed.the-variants as probed
 use Rattle.kinds.specs.Columns.{values}
 use Rattle.kinds.specs.Probing.{along}
 use Rattle.kinds.proofs.Bridge.{hit-below}
-use Rattle.kinds.proofs.Columns.{values-orderly}
-use Rattle.byte_slots.specs.Memory.{Spans, Strings, usedOf, filled, fitting}
+use Rattle.kinds.proofs.Columns.{values-lawful}
+use Rattle.byte_slots.specs.Memory.{Spans, ByteMemory, usedOf, filled, fitting}
 use Rattle.byte_slots.specs.Probing.{pathOf, probing}
 use Rattle.byte_slots.specs.Kinds.{maps}
 use Rattle.byte_slots.proofs.Bridge.{path-is, used-is}
 use Rattle.byte_slots.proofs.Held.{free-says, unharmed-says}
-use Rattle.byte_slots.proofs.Places.{strings-steady}
+use Rattle.byte_slots.proofs.Places.{byte-steady}
 use Rattle.byte_slots.proofs.Sizes.{fitting-says}
 use Rattle.byte_slots.proofs.Writes.{fill-used}
 use Rattle.byte_arena.specs.Needs.{Fillable}
@@ -37,21 +37,21 @@ use Rattle.byte_map_union.proofs.Plans.{few-slots}
 
 -- Byte maps are steady.
 pub steady : Steady maps
-steady = strings-steady values values-orderly
+steady = byte-steady values values-lawful
 
 -- What the rule leaves where the probing of the key ended so.
-abbrev ruleOf : Strings values → List ℕ → ℕ → Probed → Strings values
+abbrev ruleOf : ByteMemory values → List ℕ → ℕ → Probed → ByteMemory values
 ruleOf m k v (probed.Hit i e) = maps .over m i v
 ruleOf m k v (probed.Free i e) = maps .fill m i k v
 ruleOf m k v (probed.Full e) = m
 ruleOf m k v (probed.Refused x) = m
 
-module _ (m : Strings values) (k : List ℕ) (v : ℕ) where
+module _ (m : ByteMemory values) (k : List ℕ) (v : ℕ) where
   rule-along : (x : Find ℕ) → ruleBy maps m k v x ≡ ruleOf m k v (along (length (m .spans .marks)) (homeOf 0 (length (m .spans .marks)) k) x)
   unfolding ruleBy along slotAt
   rule-along (hit n w) = refl
   rule-along (miss e f) = by-bool (ltb f (length (m .spans .marks))) (λ t. rw t) (λ t. rw t)
-  rule-along hurt = refl
+  rule-along damage = refl
 
   module _ {u : ℕ} (s : Storable m u k v) where
     sizes : (fitting (m .spans) ≡ true) × (length (m .words) ≡ length (m .spans .marks))
@@ -69,7 +69,7 @@ module _ (m : Strings values) (k : List ℕ) (v : ℕ) where
         let (a, b) = free-slot maps steady m k v [] (s .ready .room) e′ f q in
         rw (← z) (a, b, bytes-there maps steady m k v [] (s .ready .room) e′ f q))
         (λ l t. clash (cc (rw t at c)))
-    free-along hurt q c = clash cc
+    free-along damage q c = clash cc
 
     module _ {p : Probed} (e : p ≡ probing (m .spans) k) where
       path-probed : p ≡ pathOf (m .spans) k

@@ -11,7 +11,7 @@ use Rattle.kinds.specs.declared.Probed.{Probed}
 use Rattle.kinds.specs.declared.Probed.the-variants as probed
 use Rattle.kinds.specs.Columns.{values}
 use Rattle.kinds.specs.Marks.{counted}
-use Rattle.byte_slots.specs.Memory.{Spans, Strings, bare, usedOf, harmful}
+use Rattle.byte_slots.specs.Memory.{Spans, ByteMemory, bare, usedOf, fullDamage}
 use Rattle.byte_slots.specs.Kinds.{maps}
 use Rattle.byte_slots.specs.Probing.{pathOf}
 use Rattle.byte_map_union.specs.declared.Needed.{Needed}
@@ -45,7 +45,7 @@ module _ (l r : Spans) where
   -- The tests of two tables of right sizes: damage in either, the slots, the bytes; then the left's `used`.
   unfoldable pub roomOf : Or ℕ
   roomOf =
-      need (not (harmful l)) 5 (need (not (harmful r)) 5
+      need (not (fullDamage l)) 5 (need (not (fullDamage r)) 5
       (need (leb (tableNeeds (length (r .marks)) .slots) (length (l .marks) - count (bare l) (length (l .marks)))) 7
       (need (leb (tableNeeds (length (r .marks)) .bytes) (length (l .arena) - usedOf l)) 8 (ok (usedOf l)))))
 
@@ -60,5 +60,5 @@ planned (Go u) = ok u
 planned (Refused x) = no (numberOf x)
 
 -- The union's tests: its answer, with the left's `used` where it is accepted.
-unfoldable pub planOf : Strings values → Strings values → Or ℕ
+unfoldable pub planOf : ByteMemory values → ByteMemory values → Or ℕ
 planOf l r = give (usedOf (l .spans)) (union maps l r)

@@ -8,30 +8,30 @@ use Rattle.model.specs.Calls.{storeAll}
 use Rattle.model.proofs.Running.{Roomy}
 use Rattle.digest.specs.Home.{keyLimit}
 use Rattle.kinds.specs.Columns.{values}
-use Rattle.byte_slots.specs.Memory.{Strings, usedOf}
+use Rattle.byte_slots.specs.Memory.{ByteMemory, usedOf}
 use Rattle.byte_slots.specs.Kinds.{maps}
 
 -- A table with u used bytes that has room for what it lacks of the pairs.
-pub record Ready (m : Strings values) (u : ℕ) (ps : List (List ℕ × ℕ)) : Type 0 where
+pub record Ready (m : ByteMemory values) (u : ℕ) (ps : List (List ℕ × ℕ)) : Type 0 where
   pub room : Roomy maps m ps
   pub used : u ≡ usedOf (m .spans)
 
 -- The same for one pair, whose key is one that a table may have.
-pub record Storable (m : Strings values) (u : ℕ) (k : List ℕ) (v : ℕ) : Type 0 where
+pub record Storable (m : ByteMemory values) (u : ℕ) (k : List ℕ) (v : ℕ) : Type 0 where
   pub ready : Ready m u ((k, v) ∷ [])
   pub short : length k ≤ keyLimit
 
 -- The pair of the slot i, where it is live, and the pairs of the first n slots.
-unfoldable pub pairAt : Strings values → ℕ → List (List ℕ × ℕ)
+unfoldable pub pairAt : ByteMemory values → ℕ → List (List ℕ × ℕ)
 pairAt m i = pairOf (maps .slots m i)
 
-unfoldable pub pairsOf : Strings values → ℕ → List (List ℕ × ℕ)
+unfoldable pub pairsOf : ByteMemory values → ℕ → List (List ℕ × ℕ)
 pairsOf m n = pairs (maps .slots m) n
 
 -- The insert rule for the pair of the slot i of the right.
-unfoldable pub slotStored : Strings values → Strings values → ℕ → Strings values
+unfoldable pub slotStored : ByteMemory values → ByteMemory values → ℕ → ByteMemory values
 slotStored l r i = storeAll maps l (pairAt r i)
 
 -- The insert rule for the pairs of the first n slots of the right.
-unfoldable pub allStored : Strings values → Strings values → ℕ → Strings values
+unfoldable pub allStored : ByteMemory values → ByteMemory values → ℕ → ByteMemory values
 allStored l r n = storeAll maps l (pairsOf r n)

@@ -9,7 +9,7 @@ use denote.Enum.Declared.{tagOf}
 use borrow.Author.Tests.{eq-eqb, ne-eqb, eqb-true}
 use lib.Dec.{eqb, ltb}
 use lib.ListN.{length, getD, set}
-use Rattle.model.specs.Path.{Find, hit, miss, hurt, at, find}
+use Rattle.model.specs.Path.{Find, hit, miss, damage, at, find}
 use Rattle.model.specs.Calls.{Or, no, ok, need, pass, give, acted, goodFor, vacancy, vacant-insert, after-fill}
 use Rattle.model.proofs.Cases.{by-bool, by-eq, clash}
 use Rattle.digest.specs.Home.{homeOf}
@@ -17,8 +17,8 @@ use Rattle.answers.specs.declared.Refusal.{Refusal}
 use Rattle.answers.specs.declared.Refusal.the-variants.{Sizes, LongKey, NoBudget, WalkBeyond, Damaged, BadHandle, NoSlot, NoBytes}
 use Rattle.answers.proofs.Refusal.{the-type}
 use Rattle.answers.specs.Refusals.{numberOf}
-use Rattle.answers.specs.Said.{standingSaid}
-use Rattle.kinds.specs.Calls.{standingOf}
+use Rattle.answers.specs.Said.{inSlotSaid}
+use Rattle.kinds.specs.Calls.{vacantInsertOf}
 use Rattle.kinds.specs.Columns.{values}
 use Rattle.kinds.specs.Marks.{keysOnly}
 use Rattle.kinds.specs.Probing.{along}
@@ -29,7 +29,7 @@ use Rattle.byte_slots.specs.declared.InsertPlan.the-variants as insertPlan
 use Rattle.byte_slots.specs.Keys.{byteKeys}
 use Rattle.byte_slots.specs.Kinds.{maps}
 use Rattle.byte_slots.specs.Marks.{markAt}
-use Rattle.byte_slots.specs.Memory.{Spans, Strings, keyAt, filled, usedOf, harmful, fitting, keptOf}
+use Rattle.byte_slots.specs.Memory.{Spans, ByteMemory, keyAt, filled, usedOf, fullDamage, fitting, keptOf}
 use Rattle.byte_slots.specs.Planning.{insertPlanBy, roomFor, planningInsert, planningMapInsert}
 use Rattle.byte_slots.specs.Probing.{pathFrom, pathOf}
 use Rattle.byte_slots.proofs.Bridge.{spot-is, short-refused, kept-no}
@@ -102,9 +102,9 @@ good-along i S h u true read (miss e f) = by-bool (ltb f S)
     (λ t. rw t (by-bool (eqb i (at S h f)) (λ q. rw q) (λ q. rw q)))
     (λ t. rw t)
 good-along i S h u false read (miss e f) = by-bool (ltb f S) (λ t. rw t) (λ t. rw t)
-good-along i S h u room read hurt = refl
+good-along i S h u room read damage = refl
 
-module _ (m : Strings values) (i : ℕ) (k : List ℕ) where
+module _ (m : ByteMemory values) (i : ℕ) (k : List ℕ) where
   good-path : goodFor maps i (spotIn (roomFor (m .spans) k) (λ j. getD (m .words) j 0) (pathOf (m .spans) k)) ≡ worthOf (vacancyBy i (insertPlanBy (usedOf (m .spans)) (roomFor (m .spans) k) (pathOf (m .spans) k)))
   unfolding pathOf pathFrom
   good-path =
@@ -119,7 +119,7 @@ module _ (m : Strings values) (i : ℕ) (k : List ℕ) where
   unfolding vacancy need pass planningInsert vacancyBy handleRefusal
   vacancy-planning long = rw long (by-bool (fitting (m .spans))
       (λ f. rw f (by-bool (eqb (keptOf k) 0)
-      (λ a. rw (a, eqb-true (keptOf k) 0 a) (by-bool (harmful (m .spans))
+      (λ a. rw (a, eqb-true (keptOf k) 0 a) (by-bool (fullDamage (m .spans))
       (λ h. rw h)
       (λ h. rw (h, spot-is values m k) good-path)))
       (λ a. rw (a, kept-no k a))))
@@ -144,10 +144,10 @@ module _ (m : Strings values) (i : ℕ) (k : List ℕ) where
     pub vacancy-inside : {u : ℕ} → r ≡ Good u → i < length (m .words)
     vacancy-inside q = stands q .1
 
-    pub insert-done : (v : ℕ) {u : ℕ} {t : Spans} → r ≡ Good u → t ≡ filled (m .spans) i k → told (inSlotNumbers (inSlot.Now (record { slot = i }) v)) (record { spans = t; words = set (m .words) i v }) ≡ standingOf maps m i k v
-    unfolding standingOf vacant-insert after-fill give acted inSlotNumbers standingSaid
+    pub insert-done : (v : ℕ) {u : ℕ} {t : Spans} → r ≡ Good u → t ≡ filled (m .spans) i k → told (inSlotNumbers (inSlot.Now (record { slot = i }) v)) (record { spans = t; words = set (m .words) i v }) ≡ vacantInsertOf maps m i k v
+    unfolding vacantInsertOf vacant-insert after-fill give acted inSlotNumbers inSlotSaid
     insert-done v q e = rw (worth q, ← e)
 
-    pub insert-refused : (v : ℕ) {x : Refusal} → r ≡ Refused x → told (inSlotNumbers (inSlot.Refused x)) m ≡ standingOf maps m i k v
-    unfolding standingOf vacant-insert after-fill give acted inSlotNumbers standingSaid
+    pub insert-refused : (v : ℕ) {x : Refusal} → r ≡ Refused x → told (inSlotNumbers (inSlot.Refused x)) m ≡ vacantInsertOf maps m i k v
+    unfolding vacantInsertOf vacant-insert after-fill give acted inSlotNumbers inSlotSaid
     insert-refused v q = rw (worth q)

@@ -1,6 +1,6 @@
 // The byte map's vacant handles: small values that their own call takes; the key is given again, and the slot's occupied handle is handed back.
 ghost use mathlib.Core.Path.{_≡_};
-ghost use Rattle.kinds.specs.Calls.{standingOf};
+ghost use Rattle.kinds.specs.Calls.{vacantInsertOf};
 ghost use Rattle.kinds.specs.Told.{told};
 ghost use Rattle.byte_slots.specs.Kinds.{maps};
 ghost use Rattle.byte_slots.specs.Maps.{before, after};
@@ -71,7 +71,7 @@ impl Vacant {
         key: &[u8],
         value: u64,
     ) -> InSlot
-        ensures { λ r. ⌜ told (inSlotNumbers r) (after marks offsets lengths values arena) ≡ standingOf maps (before marks offsets lengths values arena) (self .slot) (now (key .entry)) value ⌝ }
+        ensures { λ r. ⌜ told (inSlotNumbers r) (after marks offsets lengths values arena) ≡ vacantInsertOf maps (before marks offsets lengths values arena) (self .slot) (now (key .entry)) value ⌝ }
     {
         let slot = self.slot;
         let plan = map_plan_insert(marks, offsets, lengths, values, arena, key);

@@ -5,13 +5,13 @@ use Rattle.kinds.specs.Columns.{values}
 use Rattle.kinds.specs.Told.{Settled, SettledWith}
 use Rattle.kinds.proofs.Settled.{settled, settled-with}
 use Rattle.kinds.specs.Moved.{movedOn}
-use Rattle.byte_slots.specs.Memory.{Strings}
+use Rattle.byte_slots.specs.Memory.{ByteMemory}
 use Rattle.byte_slots.specs.Kinds.{stepOf}
 use Rattle.byte_map_walk.specs.declared.Walk.{Walk}
 use Rattle.byte_map_walk.specs.Numbers.{stepNumbers}
 use Rattle.byte_map_walk.proofs.Equal.{stepNumbers-injective}
 
-module _ (m : Strings values) where
+module _ (m : ByteMemory values) where
   -- `Walk::step`.
   pub step-settled : (at budget : ℕ) → Settled stepNumbers (stepOf m at budget)
   step-settled at budget = settled stepNumbers-injective

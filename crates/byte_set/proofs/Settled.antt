@@ -7,10 +7,10 @@ use Rattle.kinds.specs.Calls.{makeOf, copyOf, droppedOf}
 use Rattle.kinds.specs.Columns.{nothing}
 use Rattle.kinds.specs.Told.{SettledWith}
 use Rattle.kinds.proofs.Settled.{settled-with}
-use Rattle.byte_slots.specs.Memory.{Strings}
+use Rattle.byte_slots.specs.Memory.{ByteMemory}
 use Rattle.byte_slots.specs.Kinds.{sets, setInsertOf}
 
-module _ (m : Strings nothing) where
+module _ (m : ByteMemory nothing) where
   -- `make`.
   pub make-settled : SettledWith outcomeNumbers (makeOf sets m)
   make-settled = settled-with outcomeNumbers-injective
@@ -28,5 +28,5 @@ module _ (m : Strings nothing) where
   remove-settled k = settled-with droppedNumbers-injective
 
   -- `copy`.
-  pub copy-settled : (from : Strings nothing) → SettledWith outcomeNumbers (copyOf sets m from)
+  pub copy-settled : (from : ByteMemory nothing) → SettledWith outcomeNumbers (copyOf sets m from)
   copy-settled from = settled-with outcomeNumbers-injective

@@ -32,7 +32,7 @@ module _ (s : Spans) where
     pub len-counted : {n : ℕ} → r ≡ scanned.Live n → countedNumbers (counted.Count n) ≡ lenOf sets (setOf s)
     len-counted u = let (h, l, v) = scan-live nothing (setOf s) t u in len-live sets (setOf s) (fit s p q) h l
 
-    pub len-bad : r ≡ scanned.Bad → countedNumbers (counted.Refused Damaged) ≡ lenOf sets (setOf s)
+    pub len-bad : r ≡ scanned.Damaged → countedNumbers (counted.Refused Damaged) ≡ lenOf sets (setOf s)
     len-bad u = len-damaged sets (setOf s) (fit s p q) (scan-bad nothing (setOf s) t u)
 
   -- get and contains, by what the probing found

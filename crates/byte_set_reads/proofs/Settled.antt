@@ -7,10 +7,10 @@ use Rattle.kinds.specs.Calls.{capacityOf, lenOf, isEmptyOf, reserveOf, contains
 use Rattle.kinds.specs.Columns.{nothing}
 use Rattle.kinds.specs.Told.{Settled}
 use Rattle.kinds.proofs.Settled.{settled}
-use Rattle.byte_slots.specs.Memory.{Strings}
+use Rattle.byte_slots.specs.Memory.{ByteMemory}
 use Rattle.byte_slots.specs.Kinds.{sets, setGetOf}
 
-module _ (m : Strings nothing) where
+module _ (m : ByteMemory nothing) where
   -- `capacity`.
   pub capacity-settled : Settled countedNumbers (capacityOf sets m)
   capacity-settled = settled countedNumbers-injective

@@ -33,7 +33,7 @@ pub fn len(marks: &[u8], offsets: &[u16], lengths: &[u8], arena: &[u8]) -> Count
         let seen = byte_slots::scan(marks, offsets, lengths, arena);
         match seen {
             Scanned::Live(n) => return Counted::Count(n),
-            Scanned::Bad => return Counted::Refused(Refusal::Damaged),
+            Scanned::Damaged => return Counted::Refused(Refusal::Damaged),
         }
     }
     Counted::Refused(Refusal::Sizes)

@@ -5,13 +5,13 @@ use Rattle.kinds.specs.Columns.{nothing}
 use Rattle.kinds.specs.Told.{Settled, SettledWith}
 use Rattle.kinds.proofs.Settled.{settled, settled-with}
 use Rattle.kinds.specs.Moved.{movedOn}
-use Rattle.byte_slots.specs.Memory.{Strings}
+use Rattle.byte_slots.specs.Memory.{ByteMemory}
 use Rattle.byte_slots.specs.Kinds.{setStepOf}
 use Rattle.byte_set_walk.specs.declared.Walk.{Walk}
 use Rattle.byte_set_walk.specs.Numbers.{stepNumbers}
 use Rattle.byte_set_walk.proofs.Equal.{stepNumbers-injective}
 
-module _ (m : Strings nothing) where
+module _ (m : ByteMemory nothing) where
   -- `Walk::step`.
   pub step-settled : (at budget : ℕ) → Settled stepNumbers (setStepOf m at budget)
   step-settled at budget = settled stepNumbers-injective

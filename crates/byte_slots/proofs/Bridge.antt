@@ -7,7 +7,7 @@ use borrow.Author.Tests.{eqb-true}
 use lib.Dec.{eqb}
 use lib.ListN.{length}
 use Rattle.model.specs.Slots.{total}
-use Rattle.model.specs.Store.{path, live-count, used, hurtful}
+use Rattle.model.specs.Store.{path, live-count, used, damagedSlots}
 use Rattle.model.specs.Calls.{Or, no, ok, need, pass, Seen, found, absent, Spot, occupied, vacant, seenBy, spotBy, get, entry, remove}
 use Rattle.model.proofs.Cases.{by-bool, clash}
 use Rattle.digest.specs.Home.{homeOf, keyFits}
@@ -27,7 +27,7 @@ use Rattle.byte_slots.specs.declared.InsertPlan.{InsertPlan}
 use Rattle.byte_slots.specs.declared.InsertPlan.the-variants as insertPlan
 use Rattle.byte_slots.specs.declared.RemovePlan.{RemovePlan}
 use Rattle.byte_slots.specs.declared.RemovePlan.the-variants as removePlan
-use Rattle.byte_slots.specs.Memory.{Spans, Strings, strings, keyAt, usedOf, harmful, fitting, askedOf, keptOf}
+use Rattle.byte_slots.specs.Memory.{Spans, ByteMemory, byteStore, keyAt, usedOf, fullDamage, fitting, askedOf, keptOf}
 use Rattle.byte_slots.specs.Marks.{markAt}
 use Rattle.byte_slots.specs.Planning.{insertPlanBy, roomFor, planningInsert, removePlanBy, planningRemove}
 use Rattle.byte_slots.specs.Probing.{pathFrom, pathOf, probing}
@@ -74,40 +74,40 @@ seen-planned read u (probed.Free i e) = refl
 seen-planned read u (probed.Full e) = refl
 seen-planned read u (probed.Refused x) = refl
 
-module _ {W : Type 0} (C : Column W) (m : Strings C) where
-  stand : strings C .slots m ≡ cellsOf (markAt (m .spans)) (keyAt (m .spans)) (C .read (m .words))
+module _ {W : Type 0} (C : Column W) (m : ByteMemory C) where
+  stand : byteStore C .slots m ≡ cellsOf (markAt (m .spans)) (keyAt (m .spans)) (C .read (m .words))
   stand = slots-cells (m .spans) (C .read (m .words))
 
   -- a column of another length: wrong sizes
-  pub sized-short : C .long (m .words) (length (m .spans .marks)) ≡ false → strings C .sized m ≡ false
+  pub sized-short : C .long (m .words) (length (m .spans .marks)) ≡ false → byteStore C .sized m ≡ false
   sized-short e = rw e (by-bool (fitting (m .spans)) (λ f. rw f) (λ f. rw f))
 
   -- and so any call that tests its sizes is refused 1
-  pub short-refused : {A : Type 0} (a : Or A) → C .long (m .words) (length (m .spans .marks)) ≡ false → need (strings C .sized m) 1 a ≡ no 1
+  pub short-refused : {A : Type 0} (a : Or A) → C .long (m .words) (length (m .spans .marks)) ≡ false → need (byteStore C .sized m) 1 a ≡ no 1
   unfolding need
   short-refused a e = rw (sized-short e)
 
   -- `used`, whatever the values
-  pub used-is : used (strings C) m ≡ usedOf (m .spans)
+  pub used-is : used (byteStore C) m ≡ usedOf (m .spans)
   unfolding used usedOf
   used-is = rw (stand, slots-cells (m .spans) (λ i. tt {0})) (total-alike (markAt (m .spans)) (keyAt (m .spans)) (C .read (m .words)) (λ i. tt) length (length (m .spans .marks)))
 
   module _ (k : List ℕ) where
     -- the path over the spans is the path, in slots
-    pub path-is : along (length (m .spans .marks)) (homeOf 0 (length (m .spans .marks)) k) (path (strings C) m k) ≡ pathOf (m .spans) k
+    pub path-is : along (length (m .spans .marks)) (homeOf 0 (length (m .spans .marks)) k) (path (byteStore C) m k) ≡ pathOf (m .spans) k
     unfolding pathOf pathFrom
-    path-is = path-cells (strings C) m (markAt (m .spans)) (keyAt (m .spans)) (C .read (m .words)) stand k
+    path-is = path-cells (byteStore C) m (markAt (m .spans)) (keyAt (m .spans)) (C .read (m .words)) stand k
 
-    pub seen-is : seenBy (strings C) m k (path (strings C) m k) ≡ seenOf (C .read (m .words)) (pathOf (m .spans) k)
-    seen-is = rw (← path-is) (seen-path (strings C) m (markAt (m .spans)) (keyAt (m .spans)) (C .read (m .words)) stand k)
+    pub seen-is : seenBy (byteStore C) m k (path (byteStore C) m k) ≡ seenOf (C .read (m .words)) (pathOf (m .spans) k)
+    seen-is = rw (← path-is) (seen-path (byteStore C) m (markAt (m .spans)) (keyAt (m .spans)) (C .read (m .words)) stand k)
 
-    pub spot-is : spotBy (strings C) m k (path (strings C) m k) ≡ spotIn (roomFor (m .spans) k) (C .read (m .words)) (pathOf (m .spans) k)
+    pub spot-is : spotBy (byteStore C) m k (path (byteStore C) m k) ≡ spotIn (roomFor (m .spans) k) (C .read (m .words)) (pathOf (m .spans) k)
     unfolding roomFor
-    spot-is = rw (← path-is, ← used-is) (spot-path (strings C) m (markAt (m .spans)) (keyAt (m .spans)) (C .read (m .words)) stand k)
+    spot-is = rw (← path-is, ← used-is) (spot-path (byteStore C) m (markAt (m .spans)) (keyAt (m .spans)) (C .read (m .words)) stand k)
 
     -- a slot that the path found is one of the table's
     pub path-inside : fitting (m .spans) ≡ true → {i e : ℕ} → pathOf (m .spans) k ≡ probed.Hit i e → i < length (m .spans .marks)
-    path-inside f q = kinds.hit-below (strings C) m k (home-below 0 (length (m .spans .marks)) k (fitting-says (m .spans) f .some)) (path-is ∙ q)
+    path-inside f q = kinds.hit-below (byteStore C) m k (home-below 0 (length (m .spans .marks)) k (fitting-says (m .spans) f .some)) (path-is ∙ q)
 
     -- and so is one that the probing found, in lists that agree
     pub probing-inside : {r : Probed} {i e : ℕ} → r ≡ probing (m .spans) k → r ≡ probed.Hit i e → (i < length (m .spans .marks)) × Sized (m .spans)
@@ -120,7 +120,7 @@ module _ {W : Type 0} (C : Column W) (m : Strings C) where
 
     -- the whole calls, where the column is as long as the marks
     module _ (long : C .long (m .words) (length (m .spans .marks)) ≡ true) where
-      pub get-probing : get (strings C) m k ≡ seenOf (C .read (m .words)) (probing (m .spans) k)
+      pub get-probing : get (byteStore C) m k ≡ seenOf (C .read (m .words)) (probing (m .spans) k)
       unfolding get need pass probing
       get-probing = rw long (by-bool (fitting (m .spans))
           (λ f. rw f (by-bool (eqb (askedOf k) 0)
@@ -128,21 +128,21 @@ module _ {W : Type 0} (C : Column W) (m : Strings C) where
           (λ a. rw (a, asked-no k a))))
           (λ f. rw f))
 
-      pub remove-planning : remove (strings C) m k ≡ lostOf (C .read (m .words)) (planningRemove (m .spans) k)
+      pub remove-planning : remove (byteStore C) m k ≡ lostOf (C .read (m .words)) (planningRemove (m .spans) k)
       unfolding remove need pass planningRemove
       remove-planning = rw long (by-bool (fitting (m .spans))
           (λ f. rw f (by-bool (eqb (askedOf k) 0)
-          (λ a. rw (a, eqb-true (askedOf k) 0 a) (by-bool (harmful (m .spans))
+          (λ a. rw (a, eqb-true (askedOf k) 0 a) (by-bool (fullDamage (m .spans))
           (λ h. rw h)
           (λ h. rw h (seen-is ∙ seen-planned (C .read (m .words)) (usedOf (m .spans)) (pathOf (m .spans) k)))))
           (λ a. rw (a, asked-no k a))))
           (λ f. rw f))
 
-      pub entry-planning : entry (strings C) m k ≡ spotOf (C .read (m .words)) (planningInsert (m .spans) k)
+      pub entry-planning : entry (byteStore C) m k ≡ spotOf (C .read (m .words)) (planningInsert (m .spans) k)
       unfolding entry need pass planningInsert
       entry-planning = rw long (by-bool (fitting (m .spans))
           (λ f. rw f (by-bool (eqb (keptOf k) 0)
-          (λ a. rw (a, eqb-true (keptOf k) 0 a) (by-bool (harmful (m .spans))
+          (λ a. rw (a, eqb-true (keptOf k) 0 a) (by-bool (fullDamage (m .spans))
           (λ h. rw h)
           (λ h. rw h (spot-is ∙ spot-planned (C .read (m .words)) (usedOf (m .spans)) (roomFor (m .spans) k) (pathOf (m .spans) k)))))
           (λ a. rw (a, kept-no k a))))
@@ -150,10 +150,10 @@ module _ {W : Type 0} (C : Column W) (m : Strings C) where
 
   -- the scan tells the table's own damage and length
   module _ {r : Scanned} (p : r ≡ scanning (m .spans)) where
-    pub scan-bad : r ≡ scanned.Bad → hurtful (strings C) m ≡ true
+    pub scan-bad : r ≡ scanned.Damaged → damagedSlots (byteStore C) m ≡ true
     unfolding scanning
-    scan-bad q = kinds.scan-bad (strings C) m (markAt (m .spans)) (keyAt (m .spans)) (C .read (m .words)) stand p q
+    scan-bad q = kinds.scan-bad (byteStore C) m (markAt (m .spans)) (keyAt (m .spans)) (C .read (m .words)) stand p q
 
-    pub scan-live : {n : ℕ} → r ≡ scanned.Live n → (hurtful (strings C) m ≡ false) × (live-count (strings C) m ≡ n) × (n ≤ length (m .spans .marks))
+    pub scan-live : {n : ℕ} → r ≡ scanned.Live n → (damagedSlots (byteStore C) m ≡ false) × (live-count (byteStore C) m ≡ n) × (n ≤ length (m .spans .marks))
     unfolding scanning
-    scan-live q = kinds.scan-live (strings C) m (markAt (m .spans)) (keyAt (m .spans)) (C .read (m .words)) stand p q
+    scan-live q = kinds.scan-live (byteStore C) m (markAt (m .spans)) (keyAt (m .spans)) (C .read (m .words)) stand p q

@@ -7,10 +7,10 @@ use native.Mathlib.Omega.{arith}
 use borrow.Author.Tests.{ltb-false, leb-true, leb-false, le-ltb, eq-eqb}
 use lib.Dec.{eqb, ltb, leb}
 use lib.ListN.{length, getD, List·getD-eq-default}
-use Rattle.model.specs.Slots.{never, freed, bad, live, frees, hurts, weigh, total, damaged}
+use Rattle.model.specs.Slots.{never, freed, damaged, live, frees, isDamaged, weigh, total, anyDamaged}
 use Rattle.model.proofs.Cases.{by-bool, by-lt, by-eq, clash}
 use Rattle.lists.proofs.Parts.{length-part}
-use Rattle.byte_slots.specs.Memory.{Spans, part, endAt, keyAt, spanned, slotsOf, bare, usedOf, beyond, harmful, liveAt, offsetAt, lengthAt}
+use Rattle.byte_slots.specs.Memory.{Spans, part, endAt, keyAt, spanned, slotsOf, bare, usedOf, beyond, fullDamage, liveAt, offsetAt, lengthAt}
 use Rattle.byte_slots.proofs.Tiled.{Counted, counts, idle}
 
 -- A live slot is one of the slots.
@@ -18,7 +18,7 @@ pub live-below : (marks : List ℕ) (i : ℕ) → getD marks i 0 ≡ 1 → i < l
 live-below marks i e = by-lt i (length marks) (λ l x. l) (λ l x. absurd (omega (arith, List·getD-eq-default marks 0 l)))
 
 module _ {W : Type 0} where
-  spanned-by : {A : Type 0} (b : Bool) (m : ℕ) (k : List ℕ) (v : W) → (m ≡ 0 → spanned b m k v ≡ never → A) → (m ≡ 1 → b ≡ true → spanned b m k v ≡ live k v → A) → (m ≡ 1 → b ≡ false → spanned b m k v ≡ bad → A) → (m ≡ 2 → spanned b m k v ≡ freed → A) → (2 < m → spanned b m k v ≡ bad → A) → A
+  spanned-by : {A : Type 0} (b : Bool) (m : ℕ) (k : List ℕ) (v : W) → (m ≡ 0 → spanned b m k v ≡ never → A) → (m ≡ 1 → b ≡ true → spanned b m k v ≡ live k v → A) → (m ≡ 1 → b ≡ false → spanned b m k v ≡ damaged → A) → (m ≡ 2 → spanned b m k v ≡ freed → A) → (2 < m → spanned b m k v ≡ damaged → A) → A
   unfolding spanned
   spanned-by b zero k v p q r f g = p refl refl
   spanned-by true (suc zero) k v p q r f g = q refl refl refl
@@ -28,7 +28,7 @@ module _ {W : Type 0} where
 
   module _ (s : Spans) (read : ℕ → W) (i : ℕ) where
     -- A slot by its mark, and by where its span ends where it is live: never used, live, live past the arena, freed, or damaged.
-    pub by-slot : {A : Type 0} → (getD (s .marks) i 0 ≡ 0 → slotsOf s read i ≡ never → A) → (liveAt s i → endAt s i ≤ length (s .arena) → slotsOf s read i ≡ live (keyAt s i) (read i) → A) → (liveAt s i → length (s .arena) < endAt s i → slotsOf s read i ≡ bad → A) → (getD (s .marks) i 0 ≡ 2 → slotsOf s read i ≡ freed → A) → (2 < getD (s .marks) i 0 → slotsOf s read i ≡ bad → A) → A
+    pub by-slot : {A : Type 0} → (getD (s .marks) i 0 ≡ 0 → slotsOf s read i ≡ never → A) → (liveAt s i → endAt s i ≤ length (s .arena) → slotsOf s read i ≡ live (keyAt s i) (read i) → A) → (liveAt s i → length (s .arena) < endAt s i → slotsOf s read i ≡ damaged → A) → (getD (s .marks) i 0 ≡ 2 → slotsOf s read i ≡ freed → A) → (2 < getD (s .marks) i 0 → slotsOf s read i ≡ damaged → A) → A
     unfolding slotsOf
     by-slot p q r f g = spanned-by (leb (endAt s i) (length (s .arena))) (getD (s .marks) i 0) (keyAt s i) (read i) p
         (λ a b e. q a (leb-true (endAt s i) (length (s .arena)) b) e) (λ a b e. r a (leb-false (endAt s i) (length (s .arena)) b) e) f g
@@ -44,7 +44,7 @@ module _ {W : Type 0} where
     pub never-says : slotsOf s read i ≡ never → getD (s .marks) i 0 ≡ 0
     never-says e = by-slot (λ a q. a) (λ a l q. clash (cc)) (λ a l q. clash (cc)) (λ a q. clash (cc)) (λ a q. clash (cc))
 
-    pub bad-says : slotsOf s read i ≡ bad → getD (s .marks) i 0 ≤ 2 → liveAt s i × (length (s .arena) < endAt s i)
+    pub bad-says : slotsOf s read i ≡ damaged → getD (s .marks) i 0 ≤ 2 → liveAt s i × (length (s .arena) < endAt s i)
     bad-says e c = by-slot (λ a q. clash (cc)) (λ a l q. clash (cc)) (λ a l q. (a, l)) (λ a q. clash (cc)) (λ a q. absurd (omega arith))
 
     -- And what says which kind.
@@ -54,7 +54,7 @@ module _ {W : Type 0} where
     pub says-never : getD (s .marks) i 0 ≡ 0 → slotsOf s read i ≡ never
     says-never b = by-slot (λ a q. q) (λ a l q. absurd (omega arith)) (λ a l q. absurd (omega arith)) (λ a q. absurd (omega arith)) (λ a q. absurd (omega arith))
 
-    pub says-bad : 2 < getD (s .marks) i 0 → slotsOf s read i ≡ bad
+    pub says-bad : 2 < getD (s .marks) i 0 → slotsOf s read i ≡ damaged
     says-bad b = by-slot (λ a q. absurd (omega arith)) (λ a l q. absurd (omega arith)) (λ a l q. q) (λ a q. absurd (omega arith)) (λ a q. q)
 
   -- The span counts for a live slot alone.
@@ -66,8 +66,8 @@ module _ {W : Type 0} where
   spanned-same (suc (suc (suc m))) b c k l v h = refl
 
   -- the value is not weighed, and does no harm
-  spanned-bare : (b : Bool) (m : ℕ) (k : List ℕ) (v : W) → (weigh length (spanned b m k v) ≡ weigh length (spanned b m k (tt {0}))) × (hurts (spanned b m k v) ≡ hurts (spanned b m k (tt {0})))
-  unfolding spanned weigh hurts
+  spanned-bare : (b : Bool) (m : ℕ) (k : List ℕ) (v : W) → (weigh length (spanned b m k v) ≡ weigh length (spanned b m k (tt {0}))) × (isDamaged (spanned b m k v) ≡ isDamaged (spanned b m k (tt {0})))
+  unfolding spanned weigh isDamaged
   spanned-bare b zero k v = (refl, refl)
   spanned-bare true (suc zero) k v = (refl, refl)
   spanned-bare false (suc zero) k v = (refl, refl)
@@ -75,7 +75,7 @@ module _ {W : Type 0} where
   spanned-bare b (suc (suc (suc m))) k v = (refl, refl)
 
   module _ (s : Spans) (read : ℕ → W) where
-    bare-slot : (i : ℕ) → (weigh length (slotsOf s read i) ≡ weigh length (bare s i)) × (hurts (slotsOf s read i) ≡ hurts (bare s i))
+    bare-slot : (i : ℕ) → (weigh length (slotsOf s read i) ≡ weigh length (bare s i)) × (isDamaged (slotsOf s read i) ≡ isDamaged (bare s i))
     unfolding slotsOf
     bare-slot i = spanned-bare (leb (endAt s i) (length (s .arena))) (getD (s .marks) i 0) (keyAt s i) (read i)
 
@@ -86,8 +86,8 @@ module _ {W : Type 0} where
     bare-total (suc n) = omega (arith, bare-total n, bare-slot n .0)
 
     -- And so is damage.
-    pub bare-damaged : (n : ℕ) → damaged (slotsOf s read) n ≡ damaged (bare s) n
-    unfolding damaged
+    pub bare-damaged : (n : ℕ) → anyDamaged (slotsOf s read) n ≡ anyDamaged (bare s) n
+    unfolding anyDamaged
     bare-damaged zero = refl
     bare-damaged (suc n) = rw (bare-slot n .1, bare-damaged n)
 
@@ -121,17 +121,17 @@ module _ (s : Spans) where
       (λ b x. let q : i ≡ n = omega arith in subst (λ j. endAt s j ≤ u) (sym q) (ltb-false u (endAt s n) (rw (eq-eqb (getD (s .marks) n 0) 1 (rw q at a)) at t))))
 
   -- What a table that is not harmful says: no slot is damaged, `used` is at most the arena, and no live span ends beyond `used`.
-  pub unharmed-whole : harmful s ≡ false → damaged (bare s) (length (s .marks)) ≡ false
-  unfolding harmful
-  unharmed-whole e = by-bool (damaged (bare s) (length (s .marks))) (λ t. clash (let z : true ≡ false = rw t at e in cc)) (λ t. t)
+  pub unharmed-whole : fullDamage s ≡ false → anyDamaged (bare s) (length (s .marks)) ≡ false
+  unfolding fullDamage
+  unharmed-whole e = by-bool (anyDamaged (bare s) (length (s .marks))) (λ t. clash (let z : true ≡ false = rw t at e in cc)) (λ t. t)
 
-  pub unharmed-says : harmful s ≡ false → (usedOf s ≤ length (s .arena)) × ((i : ℕ) → liveAt s i → endAt s i ≤ usedOf s)
-  unfolding harmful
+  pub unharmed-says : fullDamage s ≡ false → (usedOf s ≤ length (s .arena)) × ((i : ℕ) → liveAt s i → endAt s i ≤ usedOf s)
+  unfolding fullDamage
   unharmed-says e = by-lt (length (s .arena)) (usedOf s)
       (λ l x. clash (let z : true ≡ false = rw (unharmed-whole e, x) at e in cc))
       (λ l x. (l, λ i a. beyond-none (usedOf s) (length (s .marks)) (rw (unharmed-whole e, x) at e) i (live-below (s .marks) i a) a))
 
   -- And the three say that it is not harmful.
-  pub says-unharmed : damaged (bare s) (length (s .marks)) ≡ false → usedOf s ≤ length (s .arena) → ((i : ℕ) → liveAt s i → endAt s i ≤ usedOf s) → harmful s ≡ false
-  unfolding harmful
+  pub says-unharmed : anyDamaged (bare s) (length (s .marks)) ≡ false → usedOf s ≤ length (s .arena) → ((i : ℕ) → liveAt s i → endAt s i ≤ usedOf s) → fullDamage s ≡ false
+  unfolding fullDamage
   says-unharmed e u ends = rw (e, le-ltb (length (s .arena)) (usedOf s) u) (beyond-not (usedOf s) (length (s .marks)) (λ i l. ends i))

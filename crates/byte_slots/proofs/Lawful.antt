@@ -8,7 +8,7 @@ use borrow.Author.Tests.{ltb-true, eqb-true}
 use lib.Dec.{eqb, ltb, leb}
 use lib.ListN.{length}
 use Rattle.model.specs.Slots.{freed, live, Table, put, made}
-use Rattle.model.specs.Sound.{Sound}
+use Rattle.model.specs.Sound.{SoundSlots}
 use Rattle.model.specs.Store.{used}
 use Rattle.model.specs.Lawful.{Wrote, Lawful}
 use Rattle.model.proofs.Cases.{both}
@@ -16,8 +16,8 @@ use Rattle.model.proofs.Slots.{damaged-not}
 use Rattle.digest.specs.Home.{homeOf, slotsFit}
 use Rattle.digest.proofs.Bounds.{home-below}
 use Rattle.kinds.specs.Columns.{Column}
-use Rattle.kinds.proofs.Columns.{Orderly}
-use Rattle.byte_slots.specs.Memory.{Spans, arenaLimit, endAt, usedOf, harmful, fitting, Strings, strings, liveAt, Laid}
+use Rattle.kinds.proofs.Columns.{LawfulColumn}
+use Rattle.byte_slots.specs.Memory.{Spans, arenaLimit, endAt, usedOf, fullDamage, fitting, ByteMemory, byteStore, liveAt, SoundSpans}
 use Rattle.byte_slots.proofs.Held.{live-says, says-live, free-says, bare-total, bare-damaged, says-unharmed}
 use Rattle.byte_slots.proofs.Writes.{SameSizes, changed, fill-sizes, fill-slots, fill-laid, free-sizes, free-slots, free-laid, wipe-sizes, wipe-slots, wipe-laid}
 
@@ -39,21 +39,21 @@ fitting-same s t z = rw (z .marks, z .offsets, z .lengths, z .arena)
 
 module _ {W : Type 0} (C : Column W) where
   -- What right sizes say.
-  pub sizes-say : (m : Strings C) → strings C .sized m ≡ true → (0 < length (m .spans .marks)) × (length (m .spans .offsets) ≡ length (m .spans .marks)) × (length (m .spans .lengths) ≡ length (m .spans .marks)) × (C .long (m .words) (length (m .spans .marks)) ≡ true)
+  pub sizes-say : (m : ByteMemory C) → byteStore C .sized m ≡ true → (0 < length (m .spans .marks)) × (length (m .spans .offsets) ≡ length (m .spans .marks)) × (length (m .spans .lengths) ≡ length (m .spans .marks)) × (C .long (m .words) (length (m .spans .marks)) ≡ true)
   sizes-say m e =
       let (f, g) = both (fitting (m .spans)) (C .long (m .words) (length (m .spans .marks))) e in
       let (a, b, c) = fitting-says (m .spans) f in
       (a, b, c, g)
 
   -- `used` is that of the spans.
-  pub used-is : (m : Strings C) → used (strings C) m ≡ usedOf (m .spans)
+  pub used-is : (m : ByteMemory C) → used (byteStore C) m ≡ usedOf (m .spans)
   unfolding used usedOf
   used-is m = bare-total (m .spans) (C .read (m .words)) (length (m .spans .marks))
 
-module _ {W : Type 0} (C : Column W) (O : Orderly C) where
-  module _ (Good : Strings C → Type 0) where
+module _ {W : Type 0} (C : Column W) (O : LawfulColumn C) where
+  module _ (Good : ByteMemory C → Type 0) where
     -- a write that keeps the sizes and leaves good memory
-    wrote : (m n : Strings C) (t : Table (List ℕ) W) → SameSizes (m .spans) (n .spans) → ((k : ℕ) → C .long (n .words) k ≡ C .long (m .words) k) → strings C .slots n ≡ t → Good n → Wrote (strings C) Good m n t
+    wrote : (m n : ByteMemory C) (t : Table (List ℕ) W) → SameSizes (m .spans) (n .spans) → ((k : ℕ) → C .long (n .words) k ≡ C .long (m .words) k) → byteStore C .slots n ≡ t → Good n → Wrote (byteStore C) Good m n t
     wrote m n t z long e g = record {
       slots = e;
       size = z .marks;
@@ -64,10 +64,10 @@ module _ {W : Type 0} (C : Column W) (O : Orderly C) where
     }
 
     -- A value written over a live slot's changes that slot, whatever the spans.
-    pub over-wrote : (m : Strings C) (i : ℕ) (k : List ℕ) (v w : W) → strings C .sized m ≡ true → i < length (m .spans .marks) → strings C .slots m i ≡ live k w → Good (strings C .over m i v) → Wrote (strings C) Good m (strings C .over m i v) (put (strings C .slots m) i (live k v))
+    pub over-wrote : (m : ByteMemory C) (i : ℕ) (k : List ℕ) (v w : W) → byteStore C .sized m ≡ true → i < length (m .spans .marks) → byteStore C .slots m i ≡ live k w → Good (byteStore C .over m i v) → Wrote (byteStore C) Good m (byteStore C .over m i v) (put (byteStore C .slots m) i (live k v))
     over-wrote m i k v w e l q g =
         let (a, b, c) = live-says (m .spans) (C .read (m .words)) i k w q in
-        wrote m (strings C .over m i v) (put (strings C .slots m) i (live k v))
+        wrote m (byteStore C .over m i v) (put (byteStore C .slots m) i (live k v))
         (record { marks = refl; offsets = refl; lengths = refl; arena = refl })
         (λ n. O .long-write (m .words) n i v)
         (changed (m .spans) (m .spans) (C .read (m .words)) (C .read (C .write (m .words) i v)) i (live k v)
@@ -77,10 +77,10 @@ module _ {W : Type 0} (C : Column W) (O : Orderly C) where
         g
 
     -- A key put into a slot changes that slot, where no live span ends beyond `used`.
-    pub fill-wrote : (m : Strings C) (i : ℕ) (k : List ℕ) (v : W) → strings C .sized m ≡ true → i < length (m .spans .marks) → usedOf (m .spans) + length k ≤ length (m .spans .arena) → ((j : ℕ) → liveAt (m .spans) j → endAt (m .spans) j ≤ usedOf (m .spans)) → Good (strings C .fill m i k v) → Wrote (strings C) Good m (strings C .fill m i k v) (put (strings C .slots m) i (live k v))
+    pub fill-wrote : (m : ByteMemory C) (i : ℕ) (k : List ℕ) (v : W) → byteStore C .sized m ≡ true → i < length (m .spans .marks) → usedOf (m .spans) + length k ≤ length (m .spans .arena) → ((j : ℕ) → liveAt (m .spans) j → endAt (m .spans) j ≤ usedOf (m .spans)) → Good (byteStore C .fill m i k v) → Wrote (byteStore C) Good m (byteStore C .fill m i k v) (put (byteStore C .slots m) i (live k v))
     fill-wrote m i k v e l room ends g =
         let (a, b, c, d) = sizes-say C m e in
-        wrote m (strings C .fill m i k v) (put (strings C .slots m) i (live k v))
+        wrote m (byteStore C .fill m i k v) (put (byteStore C .slots m) i (live k v))
         (fill-sizes (m .spans) i k room)
         (λ n. O .long-write (m .words) n i v)
         (fill-slots (m .spans) i k room l (omega arith) (omega arith) ends (C .read (m .words)) (C .read (C .write (m .words) i v)) v
@@ -88,32 +88,32 @@ module _ {W : Type 0} (C : Column W) (O : Orderly C) where
         g
 
   -- sound memory is not harmful
-  unharmed : (m : Strings C) → Laid (m .spans) → Sound (strings C .size m) (strings C .home m) (strings C .slots m) → harmful (m .spans) ≡ false
+  unharmed : (m : ByteMemory C) → SoundSpans (m .spans) → SoundSlots (byteStore C .size m) (byteStore C .home m) (byteStore C .slots m) → fullDamage (m .spans) ≡ false
   unfolding endAt
   unharmed m g s =
       let n : ℕ = length (m .spans .marks) in
-      says-unharmed (m .spans) (sym (bare-damaged (m .spans) (C .read (m .words)) n) ∙ damaged-not (strings C .slots m) n (s .whole)) (g .within) (g .tiled .ends)
+      says-unharmed (m .spans) (sym (bare-damaged (m .spans) (C .read (m .words)) n) ∙ damaged-not (byteStore C .slots m) n (s .whole)) (g .within) (g .tiled .ends)
 
   -- A byte table pays what a store owes.
-  pub strings-lawful : Lawful (strings C)
+  pub byte-lawful : Lawful (byteStore C)
   unfolding endAt
-  strings-lawful = record {
+  byte-lawful = record {
     homes = λ m k e. home-below 0 (length (m .spans .marks)) k (sizes-say C m e .0);
     unharmed = λ m e g s. unharmed m g s;
     within = λ m e g. omega (arith, used-is C m, g .within);
-    over-wrote = λ m i k v w e g l q. over-wrote (strings C .good) m i k v w e l q g;
+    over-wrote = λ m i k v w e g l q. over-wrote (byteStore C .good) m i k v w e l q g;
     fill-wrote = λ m i k v e g l q u.
         let (a, b, c, d) = sizes-say C m e in
         let room : usedOf (m .spans) + length k ≤ length (m .spans .arena) = omega (arith, used-is C m) in
-        fill-wrote (strings C .good) m i k v e l room (g .tiled .ends)
+        fill-wrote (byteStore C .good) m i k v e l room (g .tiled .ends)
         (fill-laid (m .spans) i k room l (omega arith) (omega arith) (g .tiled .ends) g (free-says (m .spans) (C .read (m .words)) i q));
     free-wrote = λ m i k w e g l q.
         let a : liveAt (m .spans) i = live-says (m .spans) (C .read (m .words)) i k w q .0 in
-        wrote (strings C .good) m (strings C .free m i) (put (strings C .slots m) i freed)
+        wrote (byteStore C .good) m (byteStore C .free m i) (put (byteStore C .slots m) i freed)
         (free-sizes (m .spans) i g a)
         (λ n. O .long-blank (m .words) n i)
         (free-slots (m .spans) i g a (C .read (m .words)) (C .read (C .blank (m .words) i)) (λ j h. O .blank-other (m .words) i j h))
         (free-laid (m .spans) i g a);
     wipe-wrote = λ m e.
-        wrote (strings C .good) m (strings C .wipe m) made (wipe-sizes (m .spans)) (λ n. O .long-wipe (m .words) n) (wipe-slots (m .spans) (C .read (C .wipe (m .words)))) (wipe-laid (m .spans));
+        wrote (byteStore C .good) m (byteStore C .wipe m) made (wipe-sizes (m .spans)) (λ n. O .long-wipe (m .words) n) (wipe-slots (m .spans) (C .read (C .wipe (m .words)))) (wipe-laid (m .spans));
   }

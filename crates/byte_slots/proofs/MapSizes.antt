@@ -7,12 +7,12 @@ use lib.ListN.{length}
 use Rattle.model.proofs.Cases.{both}
 use Rattle.kinds.specs.Calls.{sizedOf}
 use Rattle.kinds.specs.Columns.{values}
-use Rattle.byte_slots.specs.Memory.{Strings, fitting}
+use Rattle.byte_slots.specs.Memory.{ByteMemory, fitting}
 use Rattle.byte_slots.specs.Kinds.{maps}
 use Rattle.byte_slots.proofs.Bridge.{sized-short}
 use Rattle.byte_slots.proofs.Sizes.{fitting-says}
 
-module _ (m : Strings values) where
+module _ (m : ByteMemory values) where
   -- the sizes, from their tests
   pub map-fits-more : {b : Bool} → b ≡ fitting (m .spans) → b ≡ true → eqb (length (m .spans .marks)) (length (m .words)) ≡ sizedOf maps m
   unfolding sizedOf

@@ -7,22 +7,22 @@ use mathlib.Core.Path.{_≡_, refl, sym, _∙_, ap}
 use native.Mathlib.Omega.{arith}
 use lib.ListN.{length, getD, List·getD-eq-default}
 use Rattle.model.specs.Slots.{live}
-use Rattle.model.specs.Sound.{Sound}
-use Rattle.model.specs.Lawful.{Healthy}
+use Rattle.model.specs.Sound.{SoundSlots}
+use Rattle.model.specs.Lawful.{SoundTable}
 use Rattle.model.proofs.Cases.{by-lt, by-eq}
 use Rattle.digest.specs.Home.{homeOf}
 use Rattle.kinds.specs.Columns.{Column}
-use Rattle.byte_slots.specs.Memory.{Spans, endAt, keyAt, slotsOf, bare, usedOf, Strings, strings, liveAt, offsetAt, lengthAt, Laid}
-use Rattle.byte_slots.specs.Sound.{Covers, PaperSound}
+use Rattle.byte_slots.specs.Memory.{Spans, endAt, keyAt, slotsOf, bare, usedOf, ByteMemory, byteStore, liveAt, offsetAt, lengthAt, SoundSpans}
+use Rattle.byte_slots.specs.Sound.{Covers, SoundAsWorded}
 use Rattle.byte_slots.proofs.Tiled.{cover}
 use Rattle.byte_slots.proofs.Held.{live-below, live-says, says-live, never-says, says-never, bad-says, says-bad, slot-counts}
 
 module _ {W : Type 0} (s : Spans) (read : ℕ → W) where
-  abbrev SoundSlots : Type 0
-  SoundSlots = Sound (length (s .marks)) (homeOf 0 (length (s .marks))) (slotsOf s read)
+  abbrev SoundHere : Type 0
+  SoundHere = SoundSlots (length (s .marks)) (homeOf 0 (length (s .marks))) (slotsOf s read)
 
   -- Sound spans and slots are sound in the scope's words.
-  pub laid-paper : Laid s → SoundSlots → PaperSound s
+  pub laid-paper : SoundSpans s → SoundHere → SoundAsWorded s
   unfolding endAt usedOf
   laid-paper g h = record {
     marks = λ i. by-lt 2 (getD (s .marks) i 0) (λ l x. absurd (above i l)) (λ l x. l);
@@ -50,14 +50,14 @@ module _ {W : Type 0} (s : Spans) (read : ℕ → W) where
           (i, a, (c, d))
 
   -- And what is sound in the scope's words has sound slots, and sound spans.
-  pub paper-slots : PaperSound s → SoundSlots
+  pub paper-slots : SoundAsWorded s → SoundHere
   paper-slots p = record {
     whole = λ i l e. let (a, b) = bad-says s read i e (p .marks i) in omega (arith, p .ends i a, p .within);
     once = λ i j k v w l c e f. let (a, b, x) = live-says s read i k v e in let (d, g, y) = live-says s read j k w f in p .once i j a d (x ∙ sym y);
     reach = λ k v n m l c a z. let (x, b, y) = live-says s read _ k v a in p .reach k n m l c x y (never-says s read _ z);
   }
 
-pub paper-laid : (s : Spans) → PaperSound s → Laid s
+pub paper-laid : (s : Spans) → SoundAsWorded s → SoundSpans s
 unfolding endAt
 paper-laid s p = record {
   tiled = record {
@@ -72,7 +72,7 @@ paper-laid s p = record {
 }
 
 -- A table is sound exactly when its sizes are right and it is sound in the scope's words.
-pub paper-sound : {W : Type 0} (C : Column W) (m : Strings C) → Healthy (strings C) m ↔ ((strings C .sized m ≡ true) × PaperSound (m .spans))
+pub paper-sound : {W : Type 0} (C : Column W) (m : ByteMemory C) → SoundTable (byteStore C) m ↔ ((byteStore C .sized m ≡ true) × SoundAsWorded (m .spans))
 paper-sound C m = (
   (λ h. (h .sized, laid-paper (m .spans) (C .read (m .words)) (h .good) (h .sound))),
   (λ p. record { sized = p .0; good = paper-laid (m .spans) (p .1); sound = paper-slots (m .spans) (C .read (m .words)) (p .1) }),

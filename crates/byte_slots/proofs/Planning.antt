@@ -17,7 +17,7 @@ use Rattle.byte_slots.specs.declared.InsertPlan.{InsertPlan}
 use Rattle.byte_slots.specs.declared.InsertPlan.the-variants as insertPlan
 use Rattle.byte_slots.specs.declared.RemovePlan.{RemovePlan}
 use Rattle.byte_slots.specs.declared.RemovePlan.the-variants as removePlan
-use Rattle.byte_slots.specs.Memory.{Strings, fitting, harmful, usedOf, keptOf}
+use Rattle.byte_slots.specs.Memory.{ByteMemory, fitting, fullDamage, usedOf, keptOf}
 use Rattle.byte_slots.specs.Kinds.{maps}
 use Rattle.byte_slots.specs.Probing.{pathOf}
 use Rattle.byte_slots.specs.Planning.{insertPlanBy, roomFor, planningInsert, planningMapInsert, planningRemove, planningMapRemove}
@@ -33,7 +33,7 @@ insert-plan-hit u false (probed.Free a b) q = clash cc
 insert-plan-hit u room (probed.Full a) q = clash cc
 insert-plan-hit u room (probed.Refused a) q = clash cc
 
-module _ (m : Strings values) (k : List ℕ) where
+module _ (m : ByteMemory values) (k : List ℕ) where
   -- the plans, from the test of the values
   pub map-plan-insert-long : {r : InsertPlan} → length (m .spans .marks) ≡ length (m .words) → r ≡ planningInsert (m .spans) k → r ≡ planningMapInsert m k
   unfolding planningMapInsert
@@ -54,7 +54,7 @@ module _ (m : Strings values) (k : List ℕ) where
   -- insert and remove by what their plans say
   entry-short : eqb (length (m .spans .marks)) (length (m .words)) ≡ false → entry maps m k ≡ no 1
   unfolding entry
-  entry-short e = short-refused values m (pass (maps .kept k) (need (not (maps .harmed m)) 5 (spotBy maps m k (path maps m k)))) e
+  entry-short e = short-refused values m (pass (maps .kept k) (need (not (maps .damagedFully m)) 5 (spotBy maps m k (path maps m k)))) e
 
   pub entry-planned : entry maps m k ≡ spotOf (values .read (m .words)) (planningMapInsert m k)
   unfolding planningMapInsert
@@ -62,7 +62,7 @@ module _ (m : Strings values) (k : List ℕ) where
 
   remove-short : eqb (length (m .spans .marks)) (length (m .words)) ≡ false → remove maps m k ≡ no 1
   unfolding remove
-  remove-short e = short-refused values m (pass (maps .asked k) (need (not (maps .harmed m)) 5 (seenBy maps m k (path maps m k)))) e
+  remove-short e = short-refused values m (pass (maps .asked k) (need (not (maps .damagedFully m)) 5 (seenBy maps m k (path maps m k)))) e
 
   pub remove-planned : remove maps m k ≡ lostOf (values .read (m .words)) (planningMapRemove m k)
   unfolding planningMapRemove
@@ -73,7 +73,7 @@ module _ (m : Strings values) (k : List ℕ) where
   unfolding planningInsert
   plan-insert-inside q = by-bool (fitting (m .spans))
       (λ f. by-bool (eqb (keptOf k) 0)
-      (λ a. by-bool (harmful (m .spans))
+      (λ a. by-bool (fullDamage (m .spans))
       (λ h. clash (cc (rw (f, a, h) at q)))
       (λ h. path-inside values m k f (insert-plan-hit (usedOf (m .spans)) (roomFor (m .spans) k) (pathOf (m .spans) k) (rw (f, a, h) at q))))
       (λ a. clash (cc (rw (f, a) at q))))

@@ -7,7 +7,7 @@ use native.Mathlib.Omega.{arith}
 use borrow.Author.Tests.{ltb-false}
 use lib.Dec.{ltb, leb, eqb}
 use lib.ListN.{length}
-use Rattle.model.specs.Slots.{damaged}
+use Rattle.model.specs.Slots.{anyDamaged}
 use Rattle.model.proofs.Cases.{by-bool, clash}
 use Rattle.answers.specs.declared.Refusal.the-variants as refusal
 use Rattle.digest.specs.Home.{homeOf}
@@ -18,15 +18,15 @@ use Rattle.byte_slots.specs.declared.InsertPlan.{InsertPlan}
 use Rattle.byte_slots.specs.declared.InsertPlan.the-variants as insertPlan
 use Rattle.byte_slots.specs.declared.RemovePlan.{RemovePlan}
 use Rattle.byte_slots.specs.declared.RemovePlan.the-variants as removePlan
-use Rattle.byte_slots.specs.Memory.{Spans, bare, usedOf, harmful, fitting, askedOf, keptOf}
+use Rattle.byte_slots.specs.Memory.{Spans, bare, usedOf, fullDamage, fitting, askedOf, keptOf}
 use Rattle.byte_slots.specs.Planning.{insertPlanBy, roomFor, planningInsert, removePlanBy, planningRemove}
 use Rattle.byte_slots.specs.Probing.{pathFrom, pathOf}
 use Rattle.byte_slots.specs.Surveying.{surveying}
 
 -- where nothing is damaged, the used bytes are in the arena
-pub used-within : (s : Spans) → harmful s ≡ false → usedOf s ≤ length (s .arena)
-unfolding harmful
-used-within s h = by-bool (damaged (bare s) (length (s .marks)))
+pub used-within : (s : Spans) → fullDamage s ≡ false → usedOf s ≤ length (s .arena)
+unfolding fullDamage
+used-within s h = by-bool (anyDamaged (bare s) (length (s .marks)))
     (λ e. let z : true ≡ false = rw e at h in clash cc)
     (λ e. by-bool (ltb (length (s .arena)) (usedOf s))
     (λ f. let z : true ≡ false = rw (e, f) at h in clash cc)
@@ -34,13 +34,13 @@ used-within s h = by-bool (damaged (bare s) (length (s .marks)))
 
 -- what a survey says
 module _ (s : Spans) {r : Surveyed} (p : r ≡ surveying s) where
-  pub surveyed-bad : r ≡ surveyed.Bad → harmful s ≡ true
+  pub surveyed-bad : r ≡ surveyed.Damaged → fullDamage s ≡ true
   unfolding surveying
-  surveyed-bad q = by-bool (harmful s) (λ h. h) (λ h. clash (cc (rw h at (sym q ∙ p))))
+  surveyed-bad q = by-bool (fullDamage s) (λ h. h) (λ h. clash (cc (rw h at (sym q ∙ p))))
 
-  pub surveyed-used : {u : ℕ} → r ≡ surveyed.Used u → (harmful s ≡ false) × (u ≡ usedOf s)
+  pub surveyed-used : {u : ℕ} → r ≡ surveyed.Used u → (fullDamage s ≡ false) × (u ≡ usedOf s)
   unfolding surveying
-  surveyed-used {u} q = by-bool (harmful s)
+  surveyed-used {u} q = by-bool (fullDamage s)
       (λ h. clash (cc (rw h at (sym q ∙ p))))
       (λ h. let z : surveyed.Used u ≡ surveyed.Used (usedOf s) = rw h at (sym q ∙ p) in (h, cc))
 
@@ -63,7 +63,7 @@ module _ (s : Spans) (k : List ℕ) {b : Bool} (p : b ≡ fitting s) where
     plan-insert-long e = rw (sym p ∙ q, sym w ∙ e)
 
     module _ (e : t ≡ true) {r : Surveyed} (v : r ≡ surveying s) where
-      pub plan-insert-bad : r ≡ surveyed.Bad → insertPlan.Refused refusal.Damaged ≡ planningInsert s k
+      pub plan-insert-bad : r ≡ surveyed.Damaged → insertPlan.Refused refusal.Damaged ≡ planningInsert s k
       unfolding planningInsert
       plan-insert-bad x = rw (sym p ∙ q, sym w ∙ e, surveyed-bad s v x)
 
@@ -77,7 +77,7 @@ module _ (s : Spans) (k : List ℕ) {b : Bool} (p : b ≡ fitting s) where
     plan-remove-long e = rw (sym p ∙ q, sym w ∙ e)
 
     module _ (e : t ≡ true) {r : Surveyed} (v : r ≡ surveying s) where
-      pub plan-remove-bad : r ≡ surveyed.Bad → removePlan.Refused refusal.Damaged ≡ planningRemove s k
+      pub plan-remove-bad : r ≡ surveyed.Damaged → removePlan.Refused refusal.Damaged ≡ planningRemove s k
       unfolding planningRemove
       plan-remove-bad x = rw (sym p ∙ q, sym w ∙ e, surveyed-bad s v x)
 

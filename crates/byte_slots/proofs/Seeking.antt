@@ -15,13 +15,13 @@ use Rattle.kinds.specs.declared.Probed.{Probed}
 use Rattle.kinds.specs.declared.Probed.the-variants as probed
 use Rattle.kinds.specs.Columns.{values}
 use Rattle.kinds.proofs.Bridge.{seenOf}
-use Rattle.byte_slots.specs.Memory.{Strings}
+use Rattle.byte_slots.specs.Memory.{ByteMemory}
 use Rattle.byte_slots.specs.Kinds.{maps}
 use Rattle.byte_slots.specs.Probing.{probing}
 use Rattle.byte_slots.proofs.Bridge.{short-refused, probing-inside, get-probing}
 use Rattle.byte_slots.specs.Seeking.{whereLong, probingMap}
 
-module _ (m : Strings values) where
+module _ (m : ByteMemory values) where
   -- an answer where the values are as many as the marks, and where they are not
   module _ {A : Type 0} (a n : A) where
     pub long-is : {r : A} → length (m .spans .marks) ≡ length (m .words) → r ≡ a → r ≡ whereLong m a n

@@ -2,11 +2,11 @@
 use mathlib.Core.Bool.{Bool, true, false}
 use mathlib.Core.Path.{_≡_}
 use Rattle.kinds.specs.Columns.{nothing}
-use Rattle.byte_slots.specs.Memory.{Spans, Strings, fitting}
+use Rattle.byte_slots.specs.Memory.{Spans, ByteMemory, fitting}
 use Rattle.byte_slots.specs.Kinds.{sets}
 
 -- The lent lists of a set as one record.
-abbrev pub setOf : Spans → Strings nothing
+abbrev pub setOf : Spans → ByteMemory nothing
 setOf s = record { spans = s; words = tt }
 
 module _ (s : Spans) {b : Bool} (p : b ≡ fitting s) where

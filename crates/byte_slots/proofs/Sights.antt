@@ -6,7 +6,7 @@ use mathlib.Core.Path.{_≡_}
 use native.Mathlib.Omega.{arith}
 use lib.ListN.{length, getD, take, drop}
 use Rattle.kinds.specs.Marks.{cell}
-use Rattle.kinds.specs.declared.Sight.the-variants.{Never, Freed, Bad, Same, Other}
+use Rattle.kinds.specs.declared.Sight.the-variants.{Never, Freed, Damaged, Same, Other}
 use Rattle.kinds.specs.Probing.{lookAt, lookOf}
 use Rattle.kinds.proofs.Scanning.{cell-bad}
 use Rattle.byte_slots.specs.Keys.{sameBytes}

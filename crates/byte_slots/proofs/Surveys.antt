@@ -8,13 +8,13 @@ use native.Mathlib.Omega.{arith}
 use borrow.Author.Tests.{lt-ltb, le-ltb, ltb-true, eqb-true, ne-eqb}
 use lib.Dec.{ltb, eqb}
 use lib.ListN.{length, getD}
-use Rattle.model.specs.Slots.{hurts, weigh, total, damaged}
+use Rattle.model.specs.Slots.{isDamaged, weigh, total, anyDamaged}
 use Rattle.model.proofs.Cases.{both, by-bool, by-lt, clash}
 use Rattle.model.proofs.Slots.{damaged-bad}
 use Rattle.kinds.specs.Marks.{cell}
 use Rattle.kinds.proofs.Scanning.{cell-bad, cell-sound}
 use Rattle.byte_slots.specs.declared.Surveyed.the-variants.{Used, Bad}
-use Rattle.byte_slots.specs.Memory.{Spans, endAt, keyAt, bare, usedOf, beyond, harmful, fitting}
+use Rattle.byte_slots.specs.Memory.{Spans, endAt, keyAt, bare, usedOf, beyond, fullDamage, fitting}
 use Rattle.byte_slots.specs.Marks.{markAt}
 use Rattle.byte_slots.specs.Surveying.{higherEnd, surveying}
 use Rattle.byte_slots.proofs.Marks.{mark-past, mark-within, mark-other, slot-cell, live-key}
@@ -47,14 +47,14 @@ unfolding endAt
 end-is s i = refl
 
 -- a live span past the arena is a damaged slot
-past-damaged : (s : Spans) (n : ℕ) → beyond s (length (s .arena)) n ≡ true → damaged (bare s) n ≡ true
-unfolding beyond damaged hurts
+past-damaged : (s : Spans) (n : ℕ) → beyond s (length (s .arena)) n ≡ true → anyDamaged (bare s) n ≡ true
+unfolding beyond anyDamaged isDamaged
 past-damaged s zero h = clash cc
 past-damaged s (suc n) h = by-bool (eqb (getD (s .marks) n 0) 1 && ltb (length (s .arena)) (endAt s n))
     (λ e. let (a, b) = both (eqb (getD (s .marks) n 0) 1) (ltb (length (s .arena)) (endAt s n)) e in
     let m : 3 ≡ markAt s n = mark-past s n refl (eqb-true (getD (s .marks) n 0) 1 a) refl (omega (arith, end-is s n, ltb-true (length (s .arena)) (endAt s n) b)) in
     rw (slot-cell s (λ j. tt {0}) n, cell-bad (markAt s n) (keyAt s n) (tt {0}) (omega arith)))
-    (λ e. let z : beyond s (length (s .arena)) n ≡ true = rw e at h in by-bool (hurts (bare s n)) (λ q. rw q) (λ q. rw q (past-damaged s n z)))
+    (λ e. let z : beyond s (length (s .arena)) n ≡ true = rw e at h in by-bool (isDamaged (bare s n)) (λ q. rw q) (λ q. rw q (past-damaged s n z)))
 
 -- the survey's state: no mark above 2 among the first i slots, their sum and their largest end; where that is in the arena, no damage
 pub record Surveying (s : Spans) (used top i : ℕ) : Type 0 where
@@ -62,22 +62,22 @@ pub record Surveying (s : Spans) (used top i : ℕ) : Type 0 where
   pub within : i ≤ length (s .marks)
   pub low : used ≤ 255 * i
   pub ends : (u : ℕ) → beyond s u i ≡ ltb u top
-  pub sound : top ≤ length (s .arena) → (used ≡ total length (bare s) i) × (damaged (bare s) i ≡ false)
+  pub sound : top ≤ length (s .arena) → (used ≡ total length (bare s) i) × (anyDamaged (bare s) i ≡ false)
 
 pub survey-start : (s : Spans) → fitting s ≡ true → Surveying s 0 0 0
-unfolding total damaged beyond
+unfolding total anyDamaged beyond
 survey-start s f = record { sized = fitting-says s f; within = omega arith; low = omega arith; ends = λ u. sym (le-ltb u 0 (omega arith)); sound = λ l. (refl, refl) }
 
 module _ {s : Spans} {used top i : ℕ} (w : Surveying s used top i) where
   -- the next slot's mark
   module _ {m : ℕ} (l : i < length (s .marks)) (p : m ≡ getD (s .marks) i 0) where
     pub survey-bad : 2 < m → (m ≡ 1 → ⊥) → Bad ≡ surveying s
-    unfolding surveying harmful
+    unfolding surveying fullDamage
     survey-bad h k = rw (damaged-bad (bare s) (length (s .marks)) i l (slot-cell s (λ j. tt {0}) i ∙ cell-bad (markAt s i) (keyAt s i) (tt {0}) (omega (arith, mark-other s i p k))))
 
     -- a live one
     pub survey-live : {n d u t : ℕ} → m ≡ 1 → (n ≡ getD (s .lengths) i 0) × (n ≤ 255) → d ≡ getD (s .offsets) i 0 + n → u ≡ used + n → t ≡ higherEnd d top → Surveying s u t (i + 1)
-    unfolding total weigh cell damaged beyond hurts
+    unfolding total weigh cell anyDamaged beyond isDamaged
     survey-live {n} {d} {u} {t} h (q, few) r b e =
         let raw : getD (s .marks) i 0 ≡ 1 = omega arith in
         let a : d ≡ getD (s .offsets) i 0 + getD (s .lengths) i 0 = omega arith in
@@ -96,7 +96,7 @@ module _ {s : Spans} {used top i : ℕ} (w : Surveying s used top i) where
 
     -- another
     pub survey-pass : {u t : ℕ} → m ≤ 2 → (m ≡ 1 → ⊥) → u ≡ used → t ≡ top → Surveying s u t (i + 1)
-    unfolding total damaged beyond
+    unfolding total anyDamaged beyond
     survey-pass {u} {t} h k a b =
         let shows : m ≡ markAt s i = mark-other s i p k in
         let none : weigh length (cell (markAt s i) (keyAt s i) (tt {0})) ≡ 0 = passed-cell (markAt s i) (keyAt s i) (omega arith) (λ z. k (omega arith)) in
@@ -116,13 +116,13 @@ module _ {s : Spans} {used top i : ℕ} (w : Surveying s used top i) where
     all-seen = omega (arith, w .within)
 
     -- an end past the arena is damage
-    past-harms : length (s .arena) < top → harmful s ≡ true
-    unfolding harmful
+    past-harms : length (s .arena) < top → fullDamage s ≡ true
+    unfolding fullDamage
     past-harms h = rw (all-seen, past-damaged s i (w .ends (length (s .arena)) ∙ lt-ltb (length (s .arena)) top h))
 
     -- else the sum and the largest end tell it
-    harm-is : top ≤ length (s .arena) → harmful s ≡ cond (ltb (length (s .arena)) used) true (ltb used top)
-    unfolding harmful usedOf
+    harm-is : top ≤ length (s .arena) → fullDamage s ≡ cond (ltb (length (s .arena)) used) true (ltb used top)
+    unfolding fullDamage usedOf
     harm-is h = let (a, b) = w .sound h in rw (all-seen, b, ← a, w .ends used)
 
     pub survey-over : length (s .arena) < used → Bad ≡ surveying s

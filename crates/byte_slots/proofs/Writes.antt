@@ -10,12 +10,12 @@ use borrow.Author.Tests.{le-leb}
 use lib.Dec.{eqb, leb}
 use lib.ListN.{length, getD, length-set, length-replicate}
 use lib.Seq.{getD-set-same, getD-set-other}
-use Rattle.model.specs.Slots.{Slot, freed, live, Table, put, made, weigh, damaged}
+use Rattle.model.specs.Slots.{Slot, freed, live, Table, put, made, weigh, anyDamaged}
 use Rattle.model.proofs.Cases.{by-bool, by-eq, clash}
 use Rattle.model.proofs.Slots.{by-put, total-put, damaged-not, damaged-bad}
 use Rattle.model.proofs.Finite.{total-dead}
 use Rattle.lists.proofs.Parts.{getD-zeros}
-use Rattle.byte_slots.specs.Memory.{Spans, part, endAt, keyAt, spanned, slotsOf, bare, usedOf, harmful, closed, fall, fallen, filled, emptied, wiped, Tiled, liveAt, offsetAt, lengthAt, Laid}
+use Rattle.byte_slots.specs.Memory.{Spans, part, endAt, keyAt, spanned, slotsOf, bare, usedOf, fullDamage, closed, fall, fallen, filled, emptied, wiped, Tiled, liveAt, offsetAt, lengthAt, SoundSpans}
 use Rattle.byte_slots.proofs.Arena.{length-pasted, part-pasted, part-pasted-key, length-closed, part-closed-before, part-closed-behind}
 use Rattle.byte_slots.proofs.Tiled.{Side, before, behind, side, Lowered, Extended, new, old, extended-end, close, extend, weighs}
 use Rattle.byte_slots.proofs.Held.{live-below, spanned-same, slot-counts, unharmed-whole, unharmed-says, says-unharmed}
@@ -45,7 +45,7 @@ unfolding usedOf
 used-changed s t i c e n l = rw (e, n) (total-put length (bare s) i c (length (s .marks)) l)
 
 -- A live slot does no damage.
-damaged-put : {K W : Type 0} (t : Table K W) (n i : ℕ) (k : K) (v : W) → damaged t n ≡ false → damaged (put t i (live k v)) n ≡ false
+damaged-put : {K W : Type 0} (t : Table K W) (n i : ℕ) (k : K) (v : W) → anyDamaged t n ≡ false → anyDamaged (put t i (live k v)) n ≡ false
 damaged-put t n i k v e = damaged-not (put t i (live k v)) n (λ j l q. by-put t i (live k v) j
     (λ p r. clash cc)
     (λ p r. let y : true ≡ false = sym (damaged-bad t n j l (sym r ∙ q)) ∙ e in clash cc))
@@ -101,17 +101,17 @@ module _ (s : Spans) (i : ℕ) (k : List ℕ) (room : usedOf s + length k ≤ le
         (λ q x. old (sym (getD-set-other (s .marks) i j 1 0 q) ∙ e) (getD-set-other (s .offsets) i j (usedOf s) 0 q) (getD-set-other (s .lengths) i j (length k) 0 q))
 
     -- A table that was not harmful is not harmful then.
-    pub fill-unharmed : (liveAt s i → ⊥) → harmful s ≡ false → harmful (filled s i k) ≡ false
+    pub fill-unharmed : (liveAt s i → ⊥) → fullDamage s ≡ false → fullDamage (filled s i k) ≡ false
     unfolding endAt
     fill-unharmed dead e = says-unharmed (filled s i k)
         (rw (fill-slots (λ j. tt {0}) (λ j. tt {0}) tt refl (λ j d. refl), fill-sizes .marks) (damaged-put (bare s) (length (s .marks)) i k tt (unharmed-whole s e))) (omega (arith, fill-used dead, fill-sizes .arena)) (λ j l. rw (fill-used dead) (extended-end ends (fill-span j l)))
 
     -- Sound spans stay sound.
-    pub fill-laid : Laid s → (liveAt s i → ⊥) → Laid (filled s i k)
+    pub fill-laid : SoundSpans s → (liveAt s i → ⊥) → SoundSpans (filled s i k)
     fill-laid L dead = record { tiled = rw (fill-used dead) (extend (L .tiled) i (length k) fill-span); within = omega (arith, fill-used dead, fill-sizes .arena) }
 
 -- An accepted insert overwrites no live byte, whatever the memory: every other live slot keeps its key.
-pub fill-keeps-bytes : (s : Spans) (i : ℕ) (k : List ℕ) → harmful s ≡ false → length k ≤ length (s .arena) - usedOf s → (j : ℕ) → (j ≡ i → ⊥) → liveAt s j → keyAt (filled s i k) j ≡ keyAt s j
+pub fill-keeps-bytes : (s : Spans) (i : ℕ) (k : List ℕ) → fullDamage s ≡ false → length k ≤ length (s .arena) - usedOf s → (j : ℕ) → (j ≡ i → ⊥) → liveAt s j → keyAt (filled s i k) j ≡ keyAt s j
 fill-keeps-bytes s i k e room j d a =
     let (u, ends) = unharmed-says s e in
     fill-stays s i k (omega arith) j d (ends j) .span a .1
@@ -135,7 +135,7 @@ key-lowered : (a : List ℕ) (o l u p n q : ℕ) → o + l ≤ u → u ≤ lengt
 key-lowered a o l u p n q below fits h (before e b) = rw e (part-closed-before a o l u below fits p n b)
 key-lowered a o l u p n q below fits h (behind e b) = let r : q ≡ p - l = omega arith in rw r (part-closed-behind a o l u below fits p n b h)
 
-module _ (s : Spans) (i : ℕ) (L : Laid s) (a : liveAt s i) where
+module _ (s : Spans) (i : ℕ) (L : SoundSpans s) (a : liveAt s i) where
   gap : offsetAt s i + lengthAt s i ≤ usedOf s
   gap = L .tiled .ends i a
 
@@ -208,7 +208,7 @@ module _ (s : Spans) (i : ℕ) (L : Laid s) (a : liveAt s i) where
   )
 
   -- Sound spans stay sound.
-  pub free-laid : Laid (emptied s i)
+  pub free-laid : SoundSpans (emptied s i)
   free-laid = record { tiled = rw free-used free-tiled; within = omega (arith, free-used, free-sizes .arena, L .within) }
 
 module _ (s : Spans) where
@@ -230,7 +230,7 @@ module _ (s : Spans) where
   unfolding usedOf made
   wipe-used = rw (wipe-slots (λ j. tt {0})) (total-dead {W = Unit {0}} length made (length (wiped s .marks)) (λ j l k v e. clash cc))
 
-  pub wipe-laid : Laid (wiped s)
+  pub wipe-laid : SoundSpans (wiped s)
   unfolding wiped
   wipe-laid = record {
     tiled = record { ends = λ j e. absurd (omega (arith, getD-zeros (length (s .marks)) j)); apart = λ j k e f d c. absurd (omega (arith, getD-zeros (length (s .marks)) j)) };

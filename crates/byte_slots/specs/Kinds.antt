@@ -7,39 +7,39 @@ use Rattle.model.specs.Machine.{stepping}
 use Rattle.answers.specs.declared.Numbers.{Numbers}
 use Rattle.answers.specs.Said.{storedSaid, joinedSaid, spannedSaid, spanHanded, spanOnlyHanded, stepSaid}
 use Rattle.kinds.specs.Columns.{values, nothing}
-use Rattle.kinds.specs.Told.{Told, told}
-use Rattle.byte_slots.specs.Memory.{Strings, strings, usedOf, memory, offsetAt, lengthAt}
+use Rattle.kinds.specs.Told.{ToldAndLeft, told}
+use Rattle.byte_slots.specs.Memory.{ByteMemory, byteStore, usedOf, memory, offsetAt, lengthAt}
 
 -- A byte map as a store, and its lent lists.
 abbrev pub maps : Store (List ℕ) ℕ
-maps = strings values
+maps = byteStore values
 
-abbrev pub mapMemory : List ℕ → List ℕ → List ℕ → List ℕ → List ℕ → Strings values
+abbrev pub mapMemory : List ℕ → List ℕ → List ℕ → List ℕ → List ℕ → ByteMemory values
 mapMemory marks offsets lengths vs arena = memory values marks offsets lengths arena vs
 
 -- A byte set as a store, and its lent lists.
 abbrev pub sets : Store (List ℕ) (Unit {0})
-sets = strings nothing
+sets = byteStore nothing
 
-abbrev pub setMemory : List ℕ → List ℕ → List ℕ → List ℕ → Strings nothing
+abbrev pub setMemory : List ℕ → List ℕ → List ℕ → List ℕ → ByteMemory nothing
 setMemory marks offsets lengths arena = memory nothing marks offsets lengths arena tt
 
 -- A byte map's insert: a fresh key goes to the offset `used`.
-unfoldable pub insertOf : Strings values → List ℕ → ℕ → Told (Strings values)
+unfoldable pub insertOf : ByteMemory values → List ℕ → ℕ → ToldAndLeft (ByteMemory values)
 insertOf m k v = told (storedSaid (usedOf (m .spans)) (entry maps m k)) (after-insert maps m k v)
 
 -- A byte set's insert: a fresh key goes to the offset `used`.
-unfoldable pub setInsertOf : Strings nothing → List ℕ → Told (Strings nothing)
+unfoldable pub setInsertOf : ByteMemory nothing → List ℕ → ToldAndLeft (ByteMemory nothing)
 setInsertOf m k = told (joinedSaid (usedOf (m .spans)) (entry sets m k)) (after-insert sets m k tt)
 
 -- A byte set's get: the stored key's span.
-unfoldable pub setGetOf : Strings nothing → List ℕ → Numbers
+unfoldable pub setGetOf : ByteMemory nothing → List ℕ → Numbers
 setGetOf m k = spannedSaid (offsetAt (m .spans)) (lengthAt (m .spans)) (get sets m k)
 
 -- A step of a byte map's walk with a budget: the pair of the first live slot within it, nothing, or done; the walk moved on.
-unfoldable pub stepOf : Strings values → ℕ → ℕ → Numbers
+unfoldable pub stepOf : ByteMemory values → ℕ → ℕ → Numbers
 stepOf m at budget = stepSaid (spanHanded (offsetAt (m .spans)) (lengthAt (m .spans))) at (stepping maps m at budget)
 
 -- The same for a byte set.
-unfoldable pub setStepOf : Strings nothing → ℕ → ℕ → Numbers
+unfoldable pub setStepOf : ByteMemory nothing → ℕ → ℕ → Numbers
 setStepOf m at budget = stepSaid (spanOnlyHanded (offsetAt (m .spans)) (lengthAt (m .spans))) at (stepping sets m at budget)

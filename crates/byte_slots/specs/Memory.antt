@@ -6,7 +6,7 @@ use mathlib.Core.Path.{_≡_}
 use denote.Ref.{RefT, now}
 use lib.Dec.{eqb, ltb, leb}
 use lib.ListN.{length, getD, take, drop, set, replicate}
-use Rattle.model.specs.Slots.{Slot, never, freed, bad, live, Table, total, damaged}
+use Rattle.model.specs.Slots.{Slot, never, freed, damaged, live, Table, total, anyDamaged}
 use Rattle.model.specs.Store.{Store}
 use Rattle.digest.specs.Home.{homeOf, slotsFit, keyFits}
 use Rattle.kinds.specs.Columns.{Column}
@@ -40,9 +40,9 @@ module _ (s : Spans) where
 -- What a slot with this mark holds: a live span past the arena is damaged.
 unfoldable pub spanned : {W : Type 0} → Bool → ℕ → List ℕ → W → Slot (List ℕ) W
 spanned inside zero k v = never
-spanned inside (suc zero) k v = cond inside (live k v) bad
+spanned inside (suc zero) k v = cond inside (live k v) damaged
 spanned inside (suc (suc zero)) k v = freed
-spanned inside (suc (suc (suc m))) k v = bad
+spanned inside (suc (suc (suc m))) k v = damaged
 
 -- What the slots hold, with the values that stand beside them.
 unfoldable pub slotsOf : {W : Type 0} → Spans → (ℕ → W) → Table (List ℕ) W
@@ -73,7 +73,7 @@ pub record Tiled (live : ℕ → Type 0) (off len : ℕ → ℕ) (u : ℕ) : Typ
   pub apart : (i j : ℕ) → live i → live j → (i ≡ j → ⊥) → off j < off i + len i → off j + len j ≤ off i
 
 -- Sound spans: they tile the used bytes, and these are bytes of the arena.
-pub record Laid (s : Spans) : Type 0 where
+pub record SoundSpans (s : Spans) : Type 0 where
   pub tiled : Tiled (liveAt s) (offsetAt s) (lengthAt s) (usedOf s)
   pub within : usedOf s ≤ length (s .arena)
 
@@ -83,8 +83,8 @@ beyond s u zero = false
 beyond s u (suc n) = cond (eqb (getD (s .marks) n 0) 1 && ltb u (endAt s n)) true (beyond s u n)
 
 -- Full damage: a damaged slot, `used` above the arena, or a live span that ends beyond `used`.
-unfoldable pub harmful : Spans → Bool
-harmful s = cond (damaged (bare s) (length (s .marks))) true (cond (ltb (length (s .arena)) (usedOf s)) true (beyond s (usedOf s) (length (s .marks))))
+unfoldable pub fullDamage : Spans → Bool
+fullDamage s = cond (anyDamaged (bare s) (length (s .marks))) true (cond (ltb (length (s .arena)) (usedOf s)) true (beyond s (usedOf s) (length (s .marks))))
 
 -- Marks, offsets and lengths agree in length, a table may have so many slots, and an arena so many bytes.
 unfoldable pub fitting : Spans → Bool
@@ -144,14 +144,14 @@ unfoldable pub keptOf : List ℕ → ℕ
 keptOf k = askedOf k
 
 -- The lent lists of a byte table with a column beside its keys.
-pub record Strings {W : Type 0} (C : Column W) : Type 0 where
+pub record ByteMemory {W : Type 0} (C : Column W) : Type 0 where
   pub spans : Spans
   pub words : C .Words
 
 -- A byte table as a store. A key takes as many arena bytes as it has; a storing call examines every slot.
-abbrev pub strings : {W : Type 0} (C : Column W) → Store (List ℕ) W
-strings C = record {
-  State = Strings C;
+abbrev pub byteStore : {W : Type 0} (C : Column W) → Store (List ℕ) W
+byteStore C = record {
+  State = ByteMemory C;
   keys = byteKeys;
   weight = length;
   size = λ m. length (m .spans .marks);
@@ -161,8 +161,8 @@ strings C = record {
   sized = λ m. fitting (m .spans) && C .long (m .words) (length (m .spans .marks));
   asked = askedOf;
   kept = keptOf;
-  harmed = λ m. harmful (m .spans);
-  good = λ m. Laid (m .spans);
+  damagedFully = λ m. fullDamage (m .spans);
+  good = λ m. SoundSpans (m .spans);
   over = λ m i v. record { spans = m .spans; words = C .write (m .words) i v };
   fill = λ m i k v. record { spans = filled (m .spans) i k; words = C .write (m .words) i v };
   free = λ m i. record { spans = emptied (m .spans) i; words = C .blank (m .words) i };
@@ -173,7 +173,7 @@ strings C = record {
 abbrev pub spansOf : List ℕ → List ℕ → List ℕ → List ℕ → Spans
 spansOf marks offsets lengths arena = record { marks = marks; offsets = offsets; lengths = lengths; arena = arena }
 
-abbrev pub memory : {W : Type 0} (C : Column W) → List ℕ → List ℕ → List ℕ → List ℕ → C .Words → Strings C
+abbrev pub memory : {W : Type 0} (C : Column W) → List ℕ → List ℕ → List ℕ → List ℕ → C .Words → ByteMemory C
 memory C marks offsets lengths arena words = record { spans = spansOf marks offsets lengths arena; words = words }
 
 -- The lent arrays without values, as the contracts name them: at one moment; when a call starts, and when it ends.

@@ -7,14 +7,14 @@ use lib.Dec.{eqb, ltb, leb}
 use lib.ListN.{length, getD}
 use Rattle.model.specs.Places.{Places}
 use Rattle.kinds.specs.Columns.{Column}
-use Rattle.byte_slots.specs.Memory.{Spans, endAt, usedOf, Strings, strings}
+use Rattle.byte_slots.specs.Memory.{Spans, endAt, usedOf, ByteMemory, byteStore}
 
 -- A slot's mark, its offset, its length, what stands beside its key, and a byte of the arena.
 pub data Place : Type 0 where
   mark-at offset-at length-at beside-at byte-at : ℕ → Place
 
 -- What stands in a place.
-unfoldable pub wordIn : {W : Type 0} (C : Column W) → Strings C → Place → ℕ ⊎ W
+unfoldable pub wordIn : {W : Type 0} (C : Column W) → ByteMemory C → Place → ℕ ⊎ W
 wordIn C m (mark-at i) = inl (getD (m .spans .marks) i 0)
 wordIn C m (offset-at i) = inl (getD (m .spans .offsets) i 0)
 wordIn C m (length-at i) = inl (getD (m .spans .lengths) i 0)
@@ -46,7 +46,7 @@ freeNames s i (beside-at j) = eqb j i
 freeNames s i (byte-at b) = leb (getD (s .offsets) i 0) b && ltb b (usedOf s)
 
 -- The places of a byte table.
-abbrev pub places : {W : Type 0} (C : Column W) → Places (strings C)
+abbrev pub places : {W : Type 0} (C : Column W) → Places (byteStore C)
 places {W} C = record {
   Place = Place;
   Word = ℕ ⊎ W;

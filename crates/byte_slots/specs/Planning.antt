@@ -12,7 +12,7 @@ use Rattle.byte_slots.specs.declared.InsertPlan.the-variants as insertPl
 use Rattle.byte_slots.specs.declared.RemovePlan.{RemovePlan}
 use Rattle.byte_slots.specs.declared.RemovePlan.the-variants as removePlan
 use Rattle.kinds.specs.Columns.{values}
-use Rattle.byte_slots.specs.Memory.{Spans, Strings, usedOf, harmful, fitting, askedOf, keptOf}
+use Rattle.byte_slots.specs.Memory.{Spans, ByteMemory, usedOf, fullDamage, fitting, askedOf, keptOf}
 use Rattle.byte_slots.specs.Probing.{pathOf}
 use Rattle.byte_slots.specs.Seeking.{whereLong}
 
@@ -32,7 +32,7 @@ unfoldable pub planningInsert : Spans → List ℕ → InsertPlan
 planningInsert s k =
     cond (fitting s)
     (cond (eqb (keptOf k) 0)
-    (cond (harmful s) (insertPlan.Refused refusal.Damaged) (insertPlanBy (usedOf s) (roomFor s k) (pathOf s k)))
+    (cond (fullDamage s) (insertPlan.Refused refusal.Damaged) (insertPlanBy (usedOf s) (roomFor s k) (pathOf s k)))
     (insertPlan.Refused refusal.LongKey))
     (insertPlan.Refused refusal.Sizes)
 
@@ -48,13 +48,13 @@ unfoldable pub planningRemove : Spans → List ℕ → RemovePlan
 planningRemove s k =
     cond (fitting s)
     (cond (eqb (askedOf k) 0)
-    (cond (harmful s) (removePlan.Refused refusal.Damaged) (removePlanBy (usedOf s) (pathOf s k)))
+    (cond (fullDamage s) (removePlan.Refused refusal.Damaged) (removePlanBy (usedOf s) (pathOf s k)))
     (removePlan.Refused refusal.LongKey))
     (removePlan.Refused refusal.Sizes)
 
 -- The plans in a map: refusal 1 where there are not as many values as marks.
-unfoldable pub planningMapInsert : Strings values → List ℕ → InsertPlan
+unfoldable pub planningMapInsert : ByteMemory values → List ℕ → InsertPlan
 planningMapInsert m k = whereLong m (planningInsert (m .spans) k) (insertPlan.Refused refusal.Sizes)
 
-unfoldable pub planningMapRemove : Strings values → List ℕ → RemovePlan
+unfoldable pub planningMapRemove : ByteMemory values → List ℕ → RemovePlan
 planningMapRemove m k = whereLong m (planningRemove (m .spans) k) (removePlan.Refused refusal.Sizes)

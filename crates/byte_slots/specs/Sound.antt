@@ -18,7 +18,7 @@ module _ (s : Spans) where
   onPath k n = at (length (s .marks)) (homeOf 0 (length (s .marks)) k) n
 
 -- A sound byte table in the scope's words, one field a clause.
-pub record PaperSound (s : Spans) : Type 0 where
+pub record SoundAsWorded (s : Spans) : Type 0 where
   -- no mark above 2
   pub marks : (i : ℕ) → getD (s .marks) i 0 ≤ 2
   -- each live key once

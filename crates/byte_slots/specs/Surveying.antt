@@ -4,7 +4,7 @@ use mathlib.Core.Bool.{cond}
 use lib.Dec.{ltb}
 use Rattle.byte_slots.specs.declared.Surveyed.{Surveyed}
 use Rattle.byte_slots.specs.declared.Surveyed.the-variants.{Used, Bad}
-use Rattle.byte_slots.specs.Memory.{Spans, usedOf, harmful}
+use Rattle.byte_slots.specs.Memory.{Spans, usedOf, fullDamage}
 
 -- The largest end of a live span so far, after one more.
 unfoldable pub higherEnd : ℕ → ℕ → ℕ
@@ -12,4 +12,4 @@ higherEnd end top = cond (ltb top end) end top
 
 -- The survey of all slots.
 unfoldable pub surveying : Spans → Surveyed
-surveying s = cond (harmful s) Bad (Used (usedOf s))
+surveying s = cond (fullDamage s) Bad (Used (usedOf s))

@@ -40,7 +40,7 @@ pub const ARENA_LIMIT: usize = 32768;
 // What a survey of all slots found: `used`, or full damage.
 pub enum Surveyed {
     Used(usize),
-    Bad,
+    Damaged,
 }
 
 // The plan of a call that stores a key: the key's slot, or a free slot with `used`, each with the examined number; or a refusal.
@@ -201,7 +201,7 @@ pub fn look(
         let start = offsets[slot] as usize;
         let end = start + (len_at(lengths, slot) as usize);
         if arena.len() < end {
-            return Sight::Bad;
+            return Sight::Damaged;
         }
         if same_bytes(&arena[start..end], key) {
             return Sight::Same;
@@ -214,7 +214,7 @@ pub fn look(
     if mark == 2 {
         return Sight::Freed;
     }
-    Sight::Bad
+    Sight::Damaged
 }
 
 // The path of a key from its home slot, slot by slot: each break is an answer.
@@ -243,7 +243,7 @@ fn walk_path(
             Sight::Freed => {
                 free = first_free(free, slot, size);
             }
-            Sight::Bad => break Probed::Refused(Refusal::Damaged),
+            Sight::Damaged => break Probed::Refused(Refusal::Damaged),
             Sight::Same => break Probed::Hit(slot, n + 1),
             Sight::Other => {}
         }
@@ -276,7 +276,7 @@ pub fn scan(marks: &[u8], offsets: &[u16], lengths: &[u8], arena: &[u8]) -> Scan
     while i < marks.len() {
         let mark = mark_at(marks, offsets, lengths, arena, i);
         if 2 < mark {
-            return Scanned::Bad;
+            return Scanned::Damaged;
         }
         live += count_mark(mark);
         i += 1;
@@ -303,7 +303,7 @@ pub fn next_live(
             return Next::Live(i);
         }
         if 2 < here {
-            return Next::Bad;
+            return Next::Damaged;
         }
         i += 1;
     }
@@ -335,15 +335,15 @@ pub fn survey(marks: &[u8], offsets: &[u16], lengths: &[u8], arena: &[u8]) -> Su
             used += len;
             top = higher_end((offsets[i] as usize) + len, top);
         } else if 2 < state {
-            return Surveyed::Bad;
+            return Surveyed::Damaged;
         }
         i += 1;
     }
     if arena.len() < used {
-        return Surveyed::Bad;
+        return Surveyed::Damaged;
     }
     if used < top {
-        return Surveyed::Bad;
+        return Surveyed::Damaged;
     }
     Surveyed::Used(used)
 }
@@ -385,7 +385,7 @@ pub fn plan_insert(
                     let path = walk_path(marks, offsets, lengths, arena, key, home);
                     return insert_plan_by(path, used, arena.len(), key.len());
                 }
-                Surveyed::Bad => return InsertPlan::Refused(Refusal::Damaged),
+                Surveyed::Damaged => return InsertPlan::Refused(Refusal::Damaged),
             }
         }
         return InsertPlan::Refused(Refusal::LongKey);
@@ -424,7 +424,7 @@ pub fn plan_remove(
                     let path = walk_path(marks, offsets, lengths, arena, key, home);
                     return remove_plan_by(path, used);
                 }
-                Surveyed::Bad => return RemovePlan::Refused(Refusal::Damaged),
+                Surveyed::Damaged => return RemovePlan::Refused(Refusal::Damaged),
             }
         }
         return RemovePlan::Refused(Refusal::LongKey);

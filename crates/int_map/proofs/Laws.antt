@@ -14,11 +14,11 @@ use Rattle.kinds.specs.Told.{told}
 use Rattle.kinds.specs.Calls.{sizedOf, copyOf}
 use Rattle.kinds.proofs.Copying.{copy-sized}
 use Rattle.kinds.proofs.Sizing.{sized-as}
-use Rattle.int_slots.specs.Memory.{Cells, memory}
+use Rattle.int_slots.specs.Memory.{IntMemory, memory}
 use Rattle.int_slots.specs.Maps.{maps}
 use Rattle.int_slots.proofs.MapSizes.{same-long}
 
-pub copy-done : (m n : Cells values) {b d : Bool} → b ≡ sizedOf maps m → b ≡ true → d ≡ sizedOf maps n → d ≡ true → length (m .marks) ≡ length (n .marks) → {x y z : List ℕ} → x ≡ copied (m .marks) (n .marks) → y ≡ copied (m .keys) (n .keys) → z ≡ copied (m .words) (n .words) → told (outcomeNumbers outcome.Done) (memory x y z) ≡ copyOf maps m n
+pub copy-done : (m n : IntMemory values) {b d : Bool} → b ≡ sizedOf maps m → b ≡ true → d ≡ sizedOf maps n → d ≡ true → length (m .marks) ≡ length (n .marks) → {x y z : List ℕ} → x ≡ copied (m .marks) (n .marks) → y ≡ copied (m .keys) (n .keys) → z ≡ copied (m .words) (n .words) → told (outcomeNumbers outcome.Done) (memory x y z) ≡ copyOf maps m n
 copy-done m n p q r s e x y z =
     let (i, j) = same-long m p q in
     let (k, l) = same-long n r s in

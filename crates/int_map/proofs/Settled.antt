@@ -5,12 +5,12 @@ use Rattle.answers.proofs.Equal.{outcomeNumbers-injective, insertedNumbers-inje
 use Rattle.kinds.specs.Columns.{values}
 use Rattle.kinds.specs.Told.{SettledWith}
 use Rattle.kinds.proofs.Settled.{settled-with}
-use Rattle.int_slots.specs.Memory.{Cells}
+use Rattle.int_slots.specs.Memory.{IntMemory}
 use Rattle.int_slots.specs.Kinds.{insertOf}
 use Rattle.kinds.specs.Calls.{makeOf, removeOf, copyOf}
 use Rattle.int_slots.specs.Maps.{maps}
 
-module _ (m : Cells values) where
+module _ (m : IntMemory values) where
   -- `make`.
   pub make-settled : SettledWith outcomeNumbers (makeOf maps m)
   make-settled = settled-with outcomeNumbers-injective
@@ -28,5 +28,5 @@ module _ (m : Cells values) where
   remove-settled k = settled-with removedNumbers-injective
 
   -- `copy`.
-  pub copy-settled : (from : Cells values) → SettledWith outcomeNumbers (copyOf maps m from)
+  pub copy-settled : (from : IntMemory values) → SettledWith outcomeNumbers (copyOf maps m from)
   copy-settled from = settled-with outcomeNumbers-injective

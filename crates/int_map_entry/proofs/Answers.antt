@@ -12,7 +12,7 @@ use Rattle.answers.specs.declared.Refusal.{Refusal}
 use Rattle.answers.specs.declared.Numbers.{Numbers}
 use Rattle.answers.specs.Refusals.{numberOf}
 use Rattle.kinds.specs.Columns.{values}
-use Rattle.int_slots.specs.Memory.{Cells, memory}
+use Rattle.int_slots.specs.Memory.{IntMemory, memory}
 use Rattle.int_map_entry.proofs.Entered.{the-type}
 use Rattle.int_map_occupied.specs.declared.Occupied.{Occupied}
 use Rattle.int_map_entry.specs.declared.Entered.{Entered}
@@ -25,10 +25,10 @@ use Rattle.int_map_vacant.specs.declared.InSlot.the-variants as in-slot
 use Rattle.int_slots.specs.Maps.{maps}
 use Rattle.kinds.specs.Told.{told}
 use Rattle.kinds.proofs.Told.{said, left, retold}
-use Rattle.answers.specs.Said.{swappedSaid, standingSaid}
+use Rattle.answers.specs.Said.{swappedSaid, inSlotSaid}
 use Rattle.int_map_occupied.specs.Numbers.{heldNumbers, swappedNumbers}
 use Rattle.int_map_vacant.specs.Numbers.{inSlotNumbers}
-use Rattle.kinds.specs.Calls.{heldOf, setOf, standingOf, slotOf, orInsertOf, insertEntryOf}
+use Rattle.kinds.specs.Calls.{heldOf, setOf, vacantInsertOf, slotOf, orInsertOf, insertEntryOf}
 use Rattle.int_map_entry.specs.Calls.{vacantSlotOf, handleOf}
 use Rattle.int_map_occupied.proofs.Values.{get-ok, get-no}
 
@@ -61,13 +61,13 @@ swapped-no s (ok w) p q = other-case (rw q at p) refl
 
 module _ (marks keys vs : List ℕ) (k v : ℕ) (a : Entered) where
   -- everything but occupied: the vacant handle's insert
-  module _ {s : ℕ} {n : Numbers} {m : Cells values} (t : (tagOf the-type a ≡ 1) ⊎ (tagOf the-type a ≡ 2)) (p : s ≡ vacantSlotOf (length marks) a) (q : told n m ≡ standingOf maps (memory marks keys vs) s k v) where
+  module _ {s : ℕ} {n : Numbers} {m : IntMemory values} (t : (tagOf the-type a ≡ 1) ⊎ (tagOf the-type a ≡ 2)) (p : s ≡ vacantSlotOf (length marks) a) (q : told n m ≡ vacantInsertOf maps (memory marks keys vs) s k v) where
     pub or-insert-vacant : told n m ≡ orInsertOf maps (memory marks keys vs) (handleOf (length marks) a) k v
-    unfolding orInsertOf standingOf or-insert after-or-insert slotOf
+    unfolding orInsertOf vacantInsertOf or-insert after-or-insert slotOf
     or-insert-vacant = rw (not-occupied (length marks) a t, ← p) q
 
     pub insert-entry-vacant : told n m ≡ insertEntryOf maps (memory marks keys vs) (handleOf (length marks) a) k v
-    unfolding insertEntryOf standingOf insert-entry after-insert-entry slotOf
+    unfolding insertEntryOf vacantInsertOf insert-entry after-insert-entry slotOf
     insert-entry-vacant = rw (not-occupied (length marks) a t, ← p) q
 
   module _ {h : Occupied} {w e : ℕ} (o : a ≡ entered.Occupied h w e) where
@@ -78,19 +78,19 @@ module _ (marks keys vs : List ℕ) (k v : ℕ) (a : Entered) where
     -- occupied: the handle's get
     module _ {r : Held} (p : heldNumbers r ≡ heldOf maps (memory marks keys vs) (h .slot) k) where
       pub or-insert-kept : {x : ℕ} {g : Occupied} → r ≡ held.Value x g → told (inSlotNumbers (in-slot.Now h x)) (memory marks keys vs) ≡ orInsertOf maps (memory marks keys vs) (handleOf (length marks) a) k v
-      unfolding orInsertOf or-insert after-or-insert slotOf inSlotNumbers standingSaid
+      unfolding orInsertOf or-insert after-or-insert slotOf inSlotNumbers inSlotSaid
       or-insert-kept q = rw (on, get-ok marks keys vs (h .slot) k p q)
 
       pub or-insert-refused : {x : Refusal} → r ≡ held.Refused x → told (inSlotNumbers (in-slot.Refused x)) (memory marks keys vs) ≡ orInsertOf maps (memory marks keys vs) (handleOf (length marks) a) k v
-      unfolding orInsertOf or-insert after-or-insert slotOf inSlotNumbers standingSaid
+      unfolding orInsertOf or-insert after-or-insert slotOf inSlotNumbers inSlotSaid
       or-insert-refused q = rw (on, get-no marks keys vs (h .slot) k p q)
 
     -- or its set
     module _ {r : Swapped} {marks′ keys′ vs′ : List ℕ} (p : told (swappedNumbers r) (memory marks′ keys′ vs′) ≡ setOf maps (memory marks keys vs) (h .slot) k v) where
       pub insert-entry-set : {x : ℕ} {g : Occupied} → r ≡ swapped.Was x g → told (inSlotNumbers (in-slot.Now h v)) (memory marks′ keys′ vs′) ≡ insertEntryOf maps (memory marks keys vs) (handleOf (length marks) a) k v
-      unfolding setOf insertEntryOf insert-entry after-insert-entry slotOf give inSlotNumbers standingSaid
+      unfolding setOf insertEntryOf insert-entry after-insert-entry slotOf give inSlotNumbers inSlotSaid
       insert-entry-set q = rw on (retold (rw (swapped-ok (h .slot) (occupied-get maps (memory marks keys vs) (h .slot) k) (said p) q)) (left p))
 
       pub insert-entry-refused : {x : Refusal} → r ≡ swapped.Refused x → told (inSlotNumbers (in-slot.Refused x)) (memory marks′ keys′ vs′) ≡ insertEntryOf maps (memory marks keys vs) (handleOf (length marks) a) k v
-      unfolding setOf insertEntryOf insert-entry after-insert-entry slotOf give inSlotNumbers standingSaid
+      unfolding setOf insertEntryOf insert-entry after-insert-entry slotOf give inSlotNumbers inSlotSaid
       insert-entry-refused q = rw on (retold (rw (swapped-no (h .slot) (occupied-get maps (memory marks keys vs) (h .slot) k) (said p) q)) (left p))

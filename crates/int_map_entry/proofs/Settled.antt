@@ -4,7 +4,7 @@ use lib.ListN.{length}
 use Rattle.kinds.specs.Columns.{values}
 use Rattle.kinds.specs.Told.{Settled, SettledWith}
 use Rattle.kinds.proofs.Settled.{settled, settled-with}
-use Rattle.int_slots.specs.Memory.{Cells}
+use Rattle.int_slots.specs.Memory.{IntMemory}
 use Rattle.int_map_vacant.specs.Numbers.{inSlotNumbers}
 use Rattle.int_map_vacant.proofs.Equal.{inSlotNumbers-injective}
 use Rattle.int_map_entry.specs.declared.Entered.{Entered}
@@ -14,7 +14,7 @@ use Rattle.kinds.specs.Calls.{entryOf, orInsertOf, insertEntryOf}
 use Rattle.int_slots.specs.Maps.{maps}
 use Rattle.int_map_entry.proofs.Equal.{enteredNumbers-injective}
 
-module _ (m : Cells values) where
+module _ (m : IntMemory values) where
   -- `entry`.
   pub entry-settled : (k : ℕ) → Settled enteredNumbers (entryOf maps m k)
   entry-settled k = settled enteredNumbers-injective

@@ -3,14 +3,14 @@ use Prim.Native.Nat.{ℕ}
 use Rattle.kinds.specs.Columns.{values}
 use Rattle.kinds.specs.Told.{Settled, SettledWith}
 use Rattle.kinds.proofs.Settled.{settled, settled-with}
-use Rattle.int_slots.specs.Memory.{Cells}
+use Rattle.int_slots.specs.Memory.{IntMemory}
 use Rattle.int_map_occupied.specs.Numbers.{heldNumbers, swappedNumbers, takenNumbers, takenEntryNumbers}
 use Rattle.int_slots.specs.Kinds.{removeEntryOf}
 use Rattle.kinds.specs.Calls.{heldOf, setOf, takenOf}
 use Rattle.int_slots.specs.Maps.{maps}
 use Rattle.int_map_occupied.proofs.Equal.{heldNumbers-injective, swappedNumbers-injective, takenNumbers-injective, takenEntryNumbers-injective}
 
-module _ (m : Cells values) where
+module _ (m : IntMemory values) where
   -- `Occupied::get`.
   pub get-settled : (s k : ℕ) → Settled heldNumbers (heldOf maps m s k)
   get-settled s k = settled heldNumbers-injective

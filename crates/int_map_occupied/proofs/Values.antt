@@ -6,7 +6,7 @@ use mathlib.Core.Path.{_≡_, refl, sym, _∙_, ap}
 use native.Mathlib.Omega.{arith}
 use borrow.Author.Tests.{lt-ltb, le-ltb}
 use lib.ListN.{length, getD, set}
-use Rattle.model.specs.Calls.{Or, no, ok, need, pass, gripOn, grip, occupied-get, after-set, occupied-remove, after-drop, acted}
+use Rattle.model.specs.Calls.{Or, no, ok, need, pass, heldOn, heldAt, occupied-get, after-set, occupied-remove, after-drop, acted}
 use Rattle.model.proofs.Cases.{by-bool, by-lt, clash}
 use Rattle.answers.proofs.Told.{other-case}
 use Rattle.answers.specs.declared.Refusal.{Refusal}
@@ -32,8 +32,8 @@ use Rattle.int_slots.specs.Kinds.{removeEntryOf}
 use Rattle.kinds.specs.Calls.{sizedOf, heldOf, setOf, takenOf}
 
 -- a mark of 0 or 2 is no good handle's
-pub idle : (mark a v k : ℕ) → mark ≤ 2 → (mark ≡ 1 → ⊥) → gripOn maps k (cell mark a v) ≡ no 6
-unfolding gripOn cell
+pub idle : (mark a v k : ℕ) → mark ≤ 2 → (mark ≡ 1 → ⊥) → heldOn maps k (cell mark a v) ≡ no 6
+unfolding heldOn cell
 idle zero a v k l h = refl
 idle (suc zero) a v k l h = absurd (h refl)
 idle (suc (suc zero)) a v k l h = refl
@@ -64,12 +64,12 @@ module _ (marks keys vs : List ℕ) where
   module _ (s k : ℕ) where
     -- the handle's test, one test after the other
     module _ {b : Bool} (p : b ≡ sizedOf maps (memory marks keys vs)) where
-      pub value-slot : {n : Numbers} → b ≡ true → s < length marks → n ≡ heldSaid s (gripOn maps k (cell (getD marks s 0) (getD keys s 0) (getD vs s 0))) → n ≡ heldOf maps (memory marks keys vs) s k
-      unfolding heldOf occupied-get grip need pass sizedOf
+      pub value-slot : {n : Numbers} → b ≡ true → s < length marks → n ≡ heldSaid s (heldOn maps k (cell (getD marks s 0) (getD keys s 0) (getD vs s 0))) → n ≡ heldOf maps (memory marks keys vs) s k
+      unfolding heldOf occupied-get heldAt need pass sizedOf
       value-slot q l h = rw (sym p ∙ q, lt-ltb s (length marks) l) h
 
       pub value-beyond : b ≡ true → length marks ≤ s → heldNumbers (held.Refused BadHandle) ≡ heldOf maps (memory marks keys vs) s k
-      unfolding heldOf occupied-get grip need pass sizedOf heldNumbers heldSaid
+      unfolding heldOf occupied-get heldAt need pass sizedOf heldNumbers heldSaid
       value-beyond q l = rw (sym p ∙ q, le-ltb s (length marks) l)
 
       pub value-unfit : b ≡ false → heldNumbers (held.Refused Sizes) ≡ heldOf maps (memory marks keys vs) s k
@@ -78,7 +78,7 @@ module _ (marks keys vs : List ℕ) where
 
     -- a good handle's slot is one of the table's
     good-slot : {v : ℕ} → occupied-get maps (memory marks keys vs) s k ≡ ok v → (s < length marks) × (length keys ≡ length marks) × (length vs ≡ length marks)
-    unfolding occupied-get grip need pass sizedOf
+    unfolding occupied-get heldAt need pass sizedOf
     good-slot e =
         by-bool (maps .sized (memory marks keys vs))
         (λ f. by-lt s (length marks)

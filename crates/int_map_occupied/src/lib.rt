@@ -1,6 +1,6 @@
 // The integer map's occupied handles: small values that their own calls take and hand back; the key is given again each time.
 ghost use mathlib.Core.Path.{_≡_};
-ghost use Rattle.model.specs.Calls.{gripOn};
+ghost use Rattle.model.specs.Calls.{heldOn};
 ghost use Rattle.kinds.specs.Marks.{cell};
 ghost use Rattle.int_slots.specs.Maps.{maps, before, after};
 ghost use Rattle.kinds.specs.Told.{told};
@@ -47,7 +47,7 @@ pub enum TakenEntry {
 
 // Whether a slot with this mark, key and value is live and holds the key.
 fn value_in(mark: u8, held: u64, value: u64, slot: usize, key: u64) -> Held
-    ensures { λ r. ⌜ heldNumbers r ≡ heldSaid slot (gripOn maps key (cell mark held value)) ⌝ }
+    ensures { λ r. ⌜ heldNumbers r ≡ heldSaid slot (heldOn maps key (cell mark held value)) ⌝ }
 {
     if 2 < mark {
         return Held::Refused(Refusal::Damaged);

@@ -13,13 +13,13 @@ use Rattle.kinds.specs.Columns.{values}
 use Rattle.kinds.specs.Calls.{capacityOf, lenOf, isEmptyOf, reserveOf, containsOf}
 use Rattle.kinds.proofs.Beside.{Beside}
 use Rattle.kinds.proofs.Sizing.{capacity-unsized, len-unsized, empty-unsized, reserve-unsized, contains-unsized}
-use Rattle.int_slots.specs.Memory.{Cells}
+use Rattle.int_slots.specs.Memory.{IntMemory}
 use Rattle.int_slots.specs.Maps.{maps}
 use Rattle.int_slots.specs.Sets.{sets, memory}
 use Rattle.int_slots.proofs.Beside.{beside-set, contains-set}
 use Rattle.int_slots.proofs.MapSizes.{map-short}
 
-module _ (m : Cells values) where
+module _ (m : IntMemory values) where
   -- as many values as marks: the set of the keys tells the same
   module _ (e : length (m .marks) ≡ length (m .words)) where
     pub as-set : Beside maps sets m (memory (m .marks) (m .keys))

@@ -5,11 +5,11 @@ use Rattle.answers.proofs.Equal.{countedNumbers-injective, emptinessNumbers-inj
 use Rattle.kinds.specs.Columns.{values}
 use Rattle.kinds.specs.Told.{Settled}
 use Rattle.kinds.proofs.Settled.{settled}
-use Rattle.int_slots.specs.Memory.{Cells}
+use Rattle.int_slots.specs.Memory.{IntMemory}
 use Rattle.kinds.specs.Calls.{capacityOf, lenOf, isEmptyOf, reserveOf, getOf, containsOf}
 use Rattle.int_slots.specs.Maps.{maps}
 
-module _ (m : Cells values) where
+module _ (m : IntMemory values) where
   -- `capacity`.
   pub capacity-settled : Settled countedNumbers (capacityOf maps m)
   capacity-settled = settled countedNumbers-injective

@@ -6,9 +6,9 @@ use mathlib.Core.Path.{_≡_, refl, sym, _∙_, ap}
 use native.Mathlib.Omega.{arith}
 use borrow.Author.Tests.{le-leb, lt-leb}
 use lib.ListN.{length}
-use Rattle.model.specs.Slots.{Slot, never, freed, bad, live, Table, weigh, total}
+use Rattle.model.specs.Slots.{Slot, never, freed, damaged, live, Table, weigh, total}
 use Rattle.model.specs.Store.{used}
-use Rattle.model.specs.Calls.{Or, no, ok, need, lacking, needs, ruined, union, acted, after-union}
+use Rattle.model.specs.Calls.{Or, no, ok, need, lacking, needs, anyDamage, union, acted, after-union}
 use Rattle.model.proofs.Cases.{by-bool, clash}
 use Rattle.answers.proofs.Told.{other-case}
 use Rattle.answers.specs.declared.Refusal.{Refusal}
@@ -21,7 +21,7 @@ use Rattle.answers.specs.Said.{doneSaid}
 use Rattle.kinds.specs.declared.Scanned.{Scanned}
 use Rattle.kinds.specs.declared.Scanned.the-variants as scanned
 use Rattle.kinds.specs.Columns.{values}
-use Rattle.int_slots.specs.Memory.{Cells, memory}
+use Rattle.int_slots.specs.Memory.{IntMemory, memory}
 use Rattle.int_slots.specs.Scanning.{scanning}
 use Rattle.int_slots.proofs.Bridge.{scan-bad, scan-live}
 use Rattle.int_slots.specs.Maps.{maps}
@@ -39,10 +39,10 @@ weightless g z t (suc n) = omega (arith, weightless g z t n, none (t n))
     none : (s : Slot ℕ ℕ) → weigh g s ≡ 0
     none never = refl
     none freed = refl
-    none bad = refl
+    none damaged = refl
     none (live a v) = z a
 
-module _ (l r : Cells values) where
+module _ (l r : IntMemory values) where
   no-bytes : needs maps (maps .weight) l r ≡ 0
   unfolding needs
   no-bytes = weightless (λ k. cond (lacking maps l k) 0 0) (λ k. by-bool (lacking maps l k) (λ t. rw t) (λ t. rw t)) (maps .slots r) (length (r .marks))
@@ -58,25 +58,25 @@ module _ (l r : Cells values) where
 
   module _ (f : sizedOf maps l ≡ true) (g : sizedOf maps r ≡ true) where
     -- damage in the left
-    pub left-bad : {x : Scanned} → x ≡ scanning (l .marks) → x ≡ scanned.Bad → outcomeNumbers (outcome.Refused Damaged) ≡ planOf l r
-    unfolding planOf union need ruined sizedOf doneSaid outcomeNumbers
+    pub left-bad : {x : Scanned} → x ≡ scanning (l .marks) → x ≡ scanned.Damaged → outcomeNumbers (outcome.Refused Damaged) ≡ planOf l r
+    unfolding planOf union need anyDamage sizedOf doneSaid outcomeNumbers
     left-bad p t = rw (f, g, scan-bad values l p t)
 
     module _ {x y : Scanned} {n : ℕ} (p : x ≡ scanning (l .marks)) (q : x ≡ scanned.Live n) (s : y ≡ scanning (r .marks)) where
       -- or in the right
-      pub right-bad : y ≡ scanned.Bad → outcomeNumbers (outcome.Refused Damaged) ≡ planOf l r
-      unfolding planOf union need ruined sizedOf doneSaid outcomeNumbers
+      pub right-bad : y ≡ scanned.Damaged → outcomeNumbers (outcome.Refused Damaged) ≡ planOf l r
+      unfolding planOf union need anyDamage sizedOf doneSaid outcomeNumbers
       right-bad t = rw (f, g, scan-live values l p q .0, scan-bad values r s t)
 
       module _ {z a : ℕ} (t : y ≡ scanned.Live z) (e : a ≡ tableNeeds l r (length (r .marks))) where
         -- room for the right's keys
         pub room-done : a ≤ length (l .marks) - n → outcomeNumbers outcome.Done ≡ planOf l r
-        unfolding planOf union need ruined needs tableNeeds sizedOf doneSaid outcomeNumbers
+        unfolding planOf union need anyDamage needs tableNeeds sizedOf doneSaid outcomeNumbers
         room-done h = rw (f, g, scan-live values l p q .0, scan-live values r s t .0, ← e, scan-live values l p q .1, le-leb a (length (l .marks) - n) h) (rw (no-bytes, le-leb 0 (0 - used maps l) (omega arith)))
 
         -- or too few slots
         pub room-none : length (l .marks) - n < a → outcomeNumbers (outcome.Refused NoSlot) ≡ planOf l r
-        unfolding planOf union need ruined needs tableNeeds sizedOf doneSaid outcomeNumbers
+        unfolding planOf union need anyDamage needs tableNeeds sizedOf doneSaid outcomeNumbers
         room-none h = rw (f, g, scan-live values l p q .0, scan-live values r s t .0, ← e, scan-live values l p q .1, lt-leb a (length (l .marks) - n) h)
 
 -- there are no more live slots than slots
@@ -94,7 +94,7 @@ unfolding outcomeNumbers doneSaid
 plan-no (no n) p q = ap no (sym (ap (λ n. n .refusal) (rw q at p)))
 plan-no (ok u) p q = other-case (rw q at p) refl
 
-module _ (l r : Cells values) {a : Outcome} (p : outcomeNumbers a ≡ planOf l r) where
+module _ (l r : IntMemory values) {a : Outcome} (p : outcomeNumbers a ≡ planOf l r) where
   -- a plan that is done has right sizes
   pub plan-sized : a ≡ outcome.Done → (sizedOf maps l ≡ true) × (length (r .keys) ≡ length (r .marks)) × (length (r .words) ≡ length (r .marks))
   unfolding planOf union need sizedOf
@@ -108,7 +108,7 @@ module _ (l r : Cells values) {a : Outcome} (p : outcomeNumbers a ≡ planOf l r
           (λ f. clash (cc (rw f at e)))
 
   -- and then all pairs go in
-  pub union-done : {m : Cells values} → a ≡ outcome.Done → m ≡ allStored l r (length (r .marks)) → told (outcomeNumbers outcome.Done) m ≡ unionOf maps l r
+  pub union-done : {m : IntMemory values} → a ≡ outcome.Done → m ≡ allStored l r (length (r .marks)) → told (outcomeNumbers outcome.Done) m ≡ unionOf maps l r
   unfolding planOf unionOf after-union allStored acted doneSaid outcomeNumbers
   union-done q e = rw (plan-ok (union maps l r) p q .1) (ap (λ m. told (outcomeNumbers outcome.Done) m) e)
 

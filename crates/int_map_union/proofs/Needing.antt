@@ -15,7 +15,7 @@ use Rattle.kinds.specs.declared.Probed.the-variants as probed
 use Rattle.kinds.specs.Columns.{values}
 use Rattle.kinds.specs.Marks.{cell}
 use Rattle.kinds.specs.Calls.{sizedOf}
-use Rattle.int_slots.specs.Memory.{Cells, memory}
+use Rattle.int_slots.specs.Memory.{IntMemory, memory}
 use Rattle.int_slots.specs.Seeking.{probingMap}
 use Rattle.int_slots.specs.Maps.{maps}
 use Rattle.int_map_union.specs.Calls.{slotNeeds, tableNeeds}
@@ -23,7 +23,7 @@ use Rattle.int_slots.proofs.Seeking.{path-probed}
 use Rattle.kinds.proofs.Uniting.{missedOf, lacking-probed, weigh-idle}
 
 -- a slot that is not live needs nothing
-pub slot-needs-idle : (l : Cells values) (mark key : ℕ) → (mark ≡ 1 → ⊥) → 0 ≡ slotNeeds l mark key
+pub slot-needs-idle : (l : IntMemory values) (mark key : ℕ) → (mark ≡ 1 → ⊥) → 0 ≡ slotNeeds l mark key
 unfolding slotNeeds
 slot-needs-idle l mark key h = sym (weigh-idle (λ k. cond (lacking maps l k) 1 0) mark key (tt {0}) h)
 
@@ -46,7 +46,7 @@ module _ (marks keys vs : List ℕ) (mark k : ℕ) {r : Probed} (f : sizedOf map
   slot-needs-refused q = rw (slot-needs-live, q)
 
 -- a slot needs one at most
-pub slot-needs-low : (l : Cells values) (mark key : ℕ) {x : ℕ} → x ≡ slotNeeds l mark key → x ≤ 1
+pub slot-needs-low : (l : IntMemory values) (mark key : ℕ) {x : ℕ} → x ≡ slotNeeds l mark key → x ≤ 1
 unfolding slotNeeds cell weigh
 slot-needs-low l mark key e = omega (arith, e, low mark)
   where
@@ -64,16 +64,16 @@ weigh-cell g a v (suc (suc zero)) = refl
 weigh-cell g a v (suc (suc (suc n))) = refl
 
 -- the count's state: the needs of the first i slots
-pub record Needing (l r : Cells values) (sum i : ℕ) : Type 0 where
+pub record Needing (l r : IntMemory values) (sum i : ℕ) : Type 0 where
   pub within : i ≤ length (r .marks)
   pub low : sum ≤ i
   pub is : sum ≡ tableNeeds l r i
 
-pub need-start : (l r : Cells values) → Needing l r 0 0
+pub need-start : (l r : IntMemory values) → Needing l r 0 0
 unfolding tableNeeds total
 need-start l r = record { within = omega arith; low = omega arith; is = refl }
 
-module _ {l r : Cells values} {sum i : ℕ} (w : Needing l r sum i) where
+module _ {l r : IntMemory values} {sum i : ℕ} (w : Needing l r sum i) where
   pub need-more : {x : ℕ} → i < length (r .marks) → x ≡ slotNeeds l (getD (r .marks) i 0) (getD (r .keys) i 0) → Needing l r (sum + x) (i + 1)
   unfolding tableNeeds slotNeeds total
   need-more {x} b e = record {

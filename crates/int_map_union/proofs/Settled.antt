@@ -4,11 +4,11 @@ use Rattle.answers.proofs.Equal.{outcomeNumbers-injective}
 use Rattle.kinds.specs.Columns.{values}
 use Rattle.kinds.specs.Told.{SettledWith}
 use Rattle.kinds.proofs.Settled.{settled-with}
-use Rattle.int_slots.specs.Memory.{Cells}
+use Rattle.int_slots.specs.Memory.{IntMemory}
 use Rattle.kinds.specs.Calls.{unionOf}
 use Rattle.int_slots.specs.Maps.{maps}
 
-module _ (m : Cells values) where
+module _ (m : IntMemory values) where
   -- `union_prefer_right`.
-  pub union-prefer-right-settled : (right : Cells values) → SettledWith outcomeNumbers (unionOf maps m right)
+  pub union-prefer-right-settled : (right : IntMemory values) → SettledWith outcomeNumbers (unionOf maps m right)
   union-prefer-right-settled right = settled-with outcomeNumbers-injective

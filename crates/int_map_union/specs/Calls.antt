@@ -7,25 +7,25 @@ use Rattle.answers.specs.declared.Numbers.{Numbers}
 use Rattle.answers.specs.Said.{doneSaid}
 use Rattle.kinds.specs.Columns.{values}
 use Rattle.kinds.specs.Marks.{cell}
-use Rattle.int_slots.specs.Memory.{Cells}
+use Rattle.int_slots.specs.Memory.{IntMemory}
 use Rattle.int_slots.specs.Maps.{maps}
 
 -- Its tests alone.
-unfoldable pub planOf : Cells values → Cells values → Numbers
+unfoldable pub planOf : IntMemory values → IntMemory values → Numbers
 planOf l r = doneSaid (union maps l r)
 
 -- What a slot of the right with this mark and key needs: a slot where it is live and the left lacks its key.
-unfoldable pub slotNeeds : Cells values → ℕ → ℕ → ℕ
+unfoldable pub slotNeeds : IntMemory values → ℕ → ℕ → ℕ
 slotNeeds l mark key = weigh (λ k. cond (lacking maps l k) 1 0) (cell mark key (tt {0}))
 
 -- What the first n slots of the right need.
-unfoldable pub tableNeeds : Cells values → Cells values → ℕ → ℕ
+unfoldable pub tableNeeds : IntMemory values → IntMemory values → ℕ → ℕ
 tableNeeds l r n = total (λ k. cond (lacking maps l k) 1 0) (maps .slots r) n
 
 -- The insert rule for the pair of a slot with this mark, key and value.
-unfoldable pub slotStored : Cells values → ℕ → ℕ → ℕ → Cells values
+unfoldable pub slotStored : IntMemory values → ℕ → ℕ → ℕ → IntMemory values
 slotStored l mark key value = storeAll maps l (pairOf (cell mark key value))
 
 -- The insert rule for the pairs of the first n slots of the right.
-unfoldable pub allStored : Cells values → Cells values → ℕ → Cells values
+unfoldable pub allStored : IntMemory values → IntMemory values → ℕ → IntMemory values
 allStored l r n = storeAll maps l (pairs (maps .slots r) n)

@@ -7,7 +7,7 @@ use native.Mathlib.Omega.{arith}
 use borrow.Author.Tests.{le-leb, eq-eqb, ne-eqb}
 use lib.Dec.{eqb, ltb}
 use lib.ListN.{length, getD, set}
-use Rattle.model.specs.Path.{Find, hit, miss, hurt}
+use Rattle.model.specs.Path.{Find, hit, miss, damage}
 use Rattle.model.specs.Store.{path, slotAt, used}
 use Rattle.model.specs.Calls.{Or, no, ok, need, pass, give, acted, spotBy, entry, goodFor, vacancy, vacant-insert, after-fill}
 use Rattle.model.proofs.Cases.{by-bool, by-eq, clash}
@@ -19,11 +19,11 @@ use Rattle.answers.specs.declared.Outcome.{Outcome}
 use Rattle.answers.specs.declared.Outcome.the-variants as outcome
 use Rattle.answers.specs.Refusals.{numberOf}
 use Rattle.answers.specs.Numbers.{outcomeNumbers}
-use Rattle.answers.specs.Said.{doneSaid, standingSaid}
+use Rattle.answers.specs.Said.{doneSaid, inSlotSaid}
 use Rattle.kinds.specs.declared.Probed.{Probed}
 use Rattle.kinds.specs.declared.Probed.the-variants as probed
 use Rattle.kinds.specs.Columns.{values}
-use Rattle.int_slots.specs.Memory.{Cells, memory}
+use Rattle.int_slots.specs.Memory.{IntMemory, memory}
 use Rattle.kinds.specs.Probing.{along}
 use Rattle.int_slots.specs.Seeking.{probingBeside, probingMap}
 use Rattle.kinds.proofs.Bridge.{spotOf}
@@ -33,7 +33,7 @@ use Rattle.int_slots.specs.Maps.{maps}
 use Rattle.kinds.specs.Told.{told}
 use Rattle.int_map_vacant.specs.Numbers.{inSlotNumbers}
 use Rattle.int_slots.specs.Kinds.{vacancyOf}
-use Rattle.kinds.specs.Calls.{standingOf}
+use Rattle.kinds.specs.Calls.{vacantInsertOf}
 
 -- What a vacant handle of slot s is worth where the probing ended so.
 abbrev goodOf : ℕ → Probed → Or (Unit {0})
@@ -42,12 +42,12 @@ goodOf s (probed.Free x e) = need (eqb s x) 6 (ok tt)
 goodOf s (probed.Full e) = no 6
 goodOf s (probed.Refused r) = no (numberOf r)
 
-module _ (m : Cells values) (s k : ℕ) where
+module _ (m : IntMemory values) (s k : ℕ) where
   good-along : (x : Find ℕ) → goodFor maps s (spotBy maps m k x) ≡ goodOf s (along (length (m .marks)) (homeOfWord 0 (length (m .marks)) k) x)
   unfolding goodFor spotBy along slotAt need
   good-along (hit n v) = refl
   good-along (miss e f) = by-bool (ltb f (length (m .marks))) (λ t. rw (t, le-leb 0 (0 - used maps m) (omega arith))) (λ t. rw t)
-  good-along hurt = refl
+  good-along damage = refl
 
   -- refusal 1 of entry is refusal 1 of the handle
   unsized-good : (r : Probed) → no 1 ≡ spotOf (λ i. getD (m .words) i 0) r → no 1 ≡ goodOf s r
@@ -119,9 +119,9 @@ module _ (marks keys vs : List ℕ) (s k : ℕ) {a : Outcome} (p : outcomeNumber
   unfolding vacancyOf
   good q = done-ok (vacancy maps (memory marks keys vs) s k) p q
 
-  bad : {e : Refusal} → a ≡ outcome.Refused e → vacancy maps (memory marks keys vs) s k ≡ no (numberOf e)
+  damaged : {e : Refusal} → a ≡ outcome.Refused e → vacancy maps (memory marks keys vs) s k ≡ no (numberOf e)
   unfolding vacancyOf
-  bad q = done-no (vacancy maps (memory marks keys vs) s k) p q
+  damaged q = done-no (vacancy maps (memory marks keys vs) s k) p q
 
   pub vacancy-slot : a ≡ outcome.Done → (s < length marks) × (s < length keys) × (s < length vs)
   unfolding probingMap
@@ -129,10 +129,10 @@ module _ (marks keys vs : List ℕ) (s k : ℕ) {a : Outcome} (p : outcomeNumber
       let (e, f) = good-free s (probingBeside values (memory marks keys vs) k) (sym (vacancy-probed (memory marks keys vs) s k) ∙ good q) in
       free-inside (memory marks keys vs) k refl f
 
-  pub insert-done : (v : ℕ) → a ≡ outcome.Done → told (inSlotNumbers (in-slot.Now (record { slot = s }) v)) (memory (set marks s 1) (set keys s k) (set vs s v)) ≡ standingOf maps (memory marks keys vs) s k v
-  unfolding standingOf vacant-insert after-fill give acted inSlotNumbers standingSaid
+  pub insert-done : (v : ℕ) → a ≡ outcome.Done → told (inSlotNumbers (in-slot.Now (record { slot = s }) v)) (memory (set marks s 1) (set keys s k) (set vs s v)) ≡ vacantInsertOf maps (memory marks keys vs) s k v
+  unfolding vacantInsertOf vacant-insert after-fill give acted inSlotNumbers inSlotSaid
   insert-done v q = rw (good q)
 
-  pub insert-refused : {e : Refusal} (v : ℕ) → a ≡ outcome.Refused e → told (inSlotNumbers (in-slot.Refused e)) (memory marks keys vs) ≡ standingOf maps (memory marks keys vs) s k v
-  unfolding standingOf vacant-insert after-fill give acted inSlotNumbers standingSaid
-  insert-refused v q = rw (bad q)
+  pub insert-refused : {e : Refusal} (v : ℕ) → a ≡ outcome.Refused e → told (inSlotNumbers (in-slot.Refused e)) (memory marks keys vs) ≡ vacantInsertOf maps (memory marks keys vs) s k v
+  unfolding vacantInsertOf vacant-insert after-fill give acted inSlotNumbers inSlotSaid
+  insert-refused v q = rw (damaged q)

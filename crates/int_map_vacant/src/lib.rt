@@ -4,7 +4,7 @@ ghost use Rattle.answers.specs.Numbers.{outcomeNumbers};
 ghost use Rattle.kinds.specs.Told.{told};
 ghost use Rattle.int_map_vacant.specs.Numbers.{inSlotNumbers};
 ghost use Rattle.int_slots.specs.Kinds.{vacancyOf};
-ghost use Rattle.kinds.specs.Calls.{standingOf};
+ghost use Rattle.kinds.specs.Calls.{vacantInsertOf};
 ghost use Rattle.int_slots.specs.Maps.{maps, before, after};
 use answers::NOW;
 use answers::Numbers;
@@ -54,7 +54,7 @@ impl Vacant {
         key: u64,
         value: u64,
     ) -> InSlot
-        ensures { λ r. ⌜ told (inSlotNumbers r) (after marks keys values) ≡ standingOf maps (before marks keys values) (self .slot) key value ⌝ }
+        ensures { λ r. ⌜ told (inSlotNumbers r) (after marks keys values) ≡ vacantInsertOf maps (before marks keys values) (self .slot) key value ⌝ }
     {
         let slot = self.slot;
         let worth = vacancy_at(marks, keys, values, slot, key);

@@ -5,13 +5,13 @@ use Rattle.kinds.specs.Columns.{values}
 use Rattle.kinds.specs.Told.{Settled, SettledWith}
 use Rattle.kinds.proofs.Settled.{settled, settled-with}
 use Rattle.kinds.specs.Moved.{movedOn}
-use Rattle.int_slots.specs.Memory.{Cells}
+use Rattle.int_slots.specs.Memory.{IntMemory}
 use Rattle.int_map_walk.specs.declared.Walk.{Walk}
 use Rattle.int_map_walk.specs.Numbers.{stepNumbers}
 use Rattle.int_slots.specs.Steps.{stepOf}
 use Rattle.int_map_walk.proofs.Equal.{stepNumbers-injective}
 
-module _ (m : Cells values) where
+module _ (m : IntMemory values) where
   -- `Walk::step`.
   pub step-settled : (at budget : ℕ) → Settled stepNumbers (stepOf m at budget)
   step-settled at budget = settled stepNumbers-injective

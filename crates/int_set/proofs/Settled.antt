@@ -5,12 +5,12 @@ use Rattle.answers.proofs.Equal.{outcomeNumbers-injective, addedNumbers-injecti
 use Rattle.kinds.specs.Columns.{nothing}
 use Rattle.kinds.specs.Told.{SettledWith}
 use Rattle.kinds.proofs.Settled.{settled-with}
-use Rattle.int_slots.specs.Memory.{Cells}
+use Rattle.int_slots.specs.Memory.{IntMemory}
 use Rattle.int_slots.specs.Kinds.{setInsertOf}
 use Rattle.kinds.specs.Calls.{makeOf, droppedOf, copyOf}
 use Rattle.int_slots.specs.Sets.{sets}
 
-module _ (m : Cells nothing) where
+module _ (m : IntMemory nothing) where
   -- `make`.
   pub make-settled : SettledWith outcomeNumbers (makeOf sets m)
   make-settled = settled-with outcomeNumbers-injective
@@ -28,5 +28,5 @@ module _ (m : Cells nothing) where
   remove-settled k = settled-with droppedNumbers-injective
 
   -- `copy`.
-  pub copy-settled : (from : Cells nothing) → SettledWith outcomeNumbers (copyOf sets m from)
+  pub copy-settled : (from : IntMemory nothing) → SettledWith outcomeNumbers (copyOf sets m from)
   copy-settled from = settled-with outcomeNumbers-injective

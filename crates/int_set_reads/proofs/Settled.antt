@@ -5,12 +5,12 @@ use Rattle.answers.proofs.Equal.{countedNumbers-injective, emptinessNumbers-inj
 use Rattle.kinds.specs.Columns.{nothing}
 use Rattle.kinds.specs.Told.{Settled}
 use Rattle.kinds.proofs.Settled.{settled}
-use Rattle.int_slots.specs.Memory.{Cells}
+use Rattle.int_slots.specs.Memory.{IntMemory}
 use Rattle.int_slots.specs.Kinds.{setGetOf}
 use Rattle.kinds.specs.Calls.{capacityOf, lenOf, isEmptyOf, reserveOf, containsOf}
 use Rattle.int_slots.specs.Sets.{sets}
 
-module _ (m : Cells nothing) where
+module _ (m : IntMemory nothing) where
   -- `capacity`.
   pub capacity-settled : Settled countedNumbers (capacityOf sets m)
   capacity-settled = settled countedNumbers-injective

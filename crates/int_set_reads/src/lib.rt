@@ -31,7 +31,7 @@ pub fn len(marks: &[u8], keys: &[u64]) -> Counted
         let seen = int_slots::scan(marks);
         match seen {
             Scanned::Live(n) => return Counted::Count(n),
-            Scanned::Bad => return Counted::Refused(Refusal::Damaged),
+            Scanned::Damaged => return Counted::Refused(Refusal::Damaged),
         }
     }
     Counted::Refused(Refusal::Sizes)

@@ -5,13 +5,13 @@ use Rattle.kinds.specs.Columns.{nothing}
 use Rattle.kinds.specs.Told.{Settled, SettledWith}
 use Rattle.kinds.proofs.Settled.{settled, settled-with}
 use Rattle.kinds.specs.Moved.{movedOn}
-use Rattle.int_slots.specs.Memory.{Cells}
+use Rattle.int_slots.specs.Memory.{IntMemory}
 use Rattle.int_set_walk.specs.declared.Walk.{Walk}
 use Rattle.int_set_walk.specs.Numbers.{stepNumbers}
 use Rattle.int_slots.specs.Steps.{setStepOf}
 use Rattle.int_set_walk.proofs.Equal.{stepNumbers-injective}
 
-module _ (m : Cells nothing) where
+module _ (m : IntMemory nothing) where
   -- `Walk::step`.
   pub step-settled : (at budget : ℕ) → Settled stepNumbers (setStepOf m at budget)
   step-settled at budget = settled stepNumbers-injective

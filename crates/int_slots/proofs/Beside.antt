@@ -8,14 +8,14 @@ use Rattle.kinds.specs.Columns.{Column, nothing}
 use Rattle.kinds.specs.Marks.{wordsOf}
 use Rattle.kinds.proofs.Alike.{stand-beside}
 use Rattle.kinds.proofs.Beside.{Beside, contains-beside}
-use Rattle.int_slots.specs.Memory.{Cells, cells}
+use Rattle.int_slots.specs.Memory.{IntMemory, intStore}
 use Rattle.int_slots.specs.Probing.{probing}
 use Rattle.int_slots.specs.Sets.{sets, memory}
 use Rattle.int_slots.proofs.Bridge.{get-probing}
 
-module _ {W : Type 0} (C : Column W) (m : Cells C) (long : C .long (m .words) (length (m .marks)) ≡ true) where
-  pub beside-set : Beside (cells C) sets m (memory (m .marks) (m .keys))
-  beside-set = stand-beside (wordsOf (m .marks)) (wordsOf (m .keys)) (C .read (m .words)) (λ i. tt) (cells C) sets refl refl (rw long) refl
+module _ {W : Type 0} (C : Column W) (m : IntMemory C) (long : C .long (m .words) (length (m .marks)) ≡ true) where
+  pub beside-set : Beside (intStore C) sets m (memory (m .marks) (m .keys))
+  beside-set = stand-beside (wordsOf (m .marks)) (wordsOf (m .keys)) (C .read (m .words)) (λ i. tt) (intStore C) sets refl refl (rw long) refl
 
-  pub contains-set : (k : ℕ) → containsOf sets (memory (m .marks) (m .keys)) k ≡ containsOf (cells C) m k
-  contains-set k = contains-beside (cells C) sets m (memory (m .marks) (m .keys)) k (C .read (m .words)) (λ i. tt) (probing (m .marks) (m .keys) k) (get-probing C m k refl refl long) (get-probing nothing (memory (m .marks) (m .keys)) k refl refl refl)
+  pub contains-set : (k : ℕ) → containsOf sets (memory (m .marks) (m .keys)) k ≡ containsOf (intStore C) m k
+  contains-set k = contains-beside (intStore C) sets m (memory (m .marks) (m .keys)) k (C .read (m .words)) (λ i. tt) (probing (m .marks) (m .keys) k) (get-probing C m k refl refl long) (get-probing nothing (memory (m .marks) (m .keys)) k refl refl refl)

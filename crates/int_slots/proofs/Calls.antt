@@ -10,7 +10,7 @@ use Rattle.kinds.specs.Columns.{values, nothing}
 use Rattle.kinds.specs.Told.{told}
 use Rattle.kinds.specs.Calls.{getOf, containsOf, removeOf, droppedOf, entryOf}
 use Rattle.kinds.proofs.Bridge.{seenOf, spotOf}
-use Rattle.int_slots.specs.Memory.{Cells}
+use Rattle.int_slots.specs.Memory.{IntMemory}
 use Rattle.int_slots.specs.Probing.{probing}
 use Rattle.int_slots.specs.Seeking.{probingMap}
 use Rattle.int_slots.specs.Maps.{maps}
@@ -20,7 +20,7 @@ use Rattle.int_slots.proofs.Bridge.{get-probing, remove-probing, entry-
 use Rattle.int_slots.proofs.Seeking.{get-probed, remove-probed, entry-probed}
 
 -- a map's calls
-module _ (m : Cells values) (k : ℕ) {r : Probed} (p : r ≡ probingMap m k) {x : Probed} (q : r ≡ x) where
+module _ (m : IntMemory values) (k : ℕ) {r : Probed} (p : r ≡ probingMap m k) {x : Probed} (q : r ≡ x) where
   pub get-says : gotSaid (seenOf (λ i. getD (m .words) i 0) x) ≡ getOf maps m k
   unfolding getOf probingMap
   get-says = rw (get-probed values m k, ← q, p)

@@ -7,16 +7,16 @@ use borrow.Author.Tests.{ltb-true, eqb-true}
 use lib.Dec.{eqb, ltb, leb}
 use lib.ListN.{length, getD, replicate, length-set, length-replicate}
 use lib.Seq.{getD-set-same, getD-set-other}
-use Rattle.model.specs.Slots.{Slot, never, freed, bad, live, Table, put, made, total, weigh}
+use Rattle.model.specs.Slots.{Slot, never, freed, damaged, live, Table, put, made, total, weigh}
 use Rattle.model.specs.Store.{used}
 use Rattle.model.specs.Lawful.{Lawful}
 use Rattle.model.proofs.Cases.{both, by-eq, clash}
 use Rattle.digest.specs.Home.{homeOfWord, slotsFit}
 use Rattle.digest.proofs.Bounds.{home-word-below}
 use Rattle.kinds.specs.Columns.{Column}
-use Rattle.kinds.proofs.Columns.{Orderly}
+use Rattle.kinds.proofs.Columns.{LawfulColumn}
 use Rattle.kinds.specs.Marks.{cell}
-use Rattle.int_slots.specs.Memory.{Cells, cells}
+use Rattle.int_slots.specs.Memory.{IntMemory, intStore}
 
 zeros : (n j : ℕ) → _≡_ {A = ℕ} (getD (replicate n 0) j 0) 0
 zeros zero j = refl
@@ -27,12 +27,12 @@ nothing-weighs : {W : Type 0} (s : Slot ℕ W) → weigh (λ k. 0) s ≡ 0
 unfolding weigh
 nothing-weighs never = refl
 nothing-weighs freed = refl
-nothing-weighs bad = refl
+nothing-weighs damaged = refl
 nothing-weighs (live a v) = refl
 
-module _ {W : Type 0} (C : Column W) (O : Orderly C) where
+module _ {W : Type 0} (C : Column W) (O : LawfulColumn C) where
   -- what right sizes say of the three columns
-  sizes-say : (m : Cells C) → cells C .sized m ≡ true → (0 < length (m .marks)) × (length (m .keys) ≡ length (m .marks)) × (C .long (m .words) (length (m .marks)) ≡ true)
+  sizes-say : (m : IntMemory C) → intStore C .sized m ≡ true → (0 < length (m .marks)) × (length (m .keys) ≡ length (m .marks)) × (C .long (m .words) (length (m .marks)) ≡ true)
   sizes-say m e =
       let (a, b) = both (slotsFit (length (m .marks))) (eqb (length (m .marks)) (length (m .keys)) && C .long (m .words) (length (m .marks))) e in
       let (c, d) = both (eqb (length (m .marks)) (length (m .keys))) (C .long (m .words) (length (m .marks))) b in
@@ -57,15 +57,15 @@ module _ {W : Type 0} (C : Column W) (O : Orderly C) where
   cell-live (suc (suc zero)) b k v w e x = clash cc
   cell-live (suc (suc (suc a))) b k v w e x = clash cc
 
-  pub cells-lawful : Lawful (cells C)
+  pub int-lawful : Lawful (intStore C)
   unfolding used cell made
-  cells-lawful = record {
+  int-lawful = record {
     homes = λ m k e. home-word-below 0 (length (m .marks)) k (sizes-say m e .0);
     unharmed = λ m e g s. refl;
-    within = λ m e g. omega (arith, weightless (cells C .slots m) (length (m .marks)));
+    within = λ m e g. omega (arith, weightless (intStore C .slots m) (length (m .marks)));
     over-wrote = λ m i k v w e g l q.
         let (a, b, c) = sizes-say m e in record {
-          slots = changed (cells C .slots m) (cells C .slots (cells C .over m i v)) i (live k v)
+          slots = changed (intStore C .slots m) (intStore C .slots (intStore C .over m i v)) i (live k v)
               (rw (O .read-same (m .words) (length (m .marks)) i v c l) (cell-live (getD (m .marks) i 0) (getD (m .keys) i 0) k (C .read (m .words) i) w q v))
               (λ j h. rw (O .read-other (m .words) i j v h));
           size = refl;
@@ -76,7 +76,7 @@ module _ {W : Type 0} (C : Column W) (O : Orderly C) where
         };
     fill-wrote = λ m i k v e g l q u.
         let (a, b, c) = sizes-say m e in record {
-          slots = changed (cells C .slots m) (cells C .slots (cells C .fill m i k v)) i (live k v)
+          slots = changed (intStore C .slots m) (intStore C .slots (intStore C .fill m i k v)) i (live k v)
               (rw (getD-set-same (m .marks) i 1 0 l, getD-set-same (m .keys) i k 0 (omega arith), O .read-same (m .words) (length (m .marks)) i v c l))
               (λ j h. rw (getD-set-other (m .marks) i j 1 0 h, getD-set-other (m .keys) i j k 0 h, O .read-other (m .words) i j v h));
           size = length-set (m .marks) i 1;
@@ -87,7 +87,7 @@ module _ {W : Type 0} (C : Column W) (O : Orderly C) where
         };
     free-wrote = λ m i k w e g l q.
         record {
-          slots = changed (cells C .slots m) (cells C .slots (cells C .free m i)) i freed
+          slots = changed (intStore C .slots m) (intStore C .slots (intStore C .free m i)) i freed
               (rw (getD-set-same (m .marks) i 2 0 l))
               (λ j h. rw (getD-set-other (m .marks) i j 2 0 h, getD-set-other (m .keys) i j 0 0 h, O .blank-other (m .words) i j h));
           size = length-set (m .marks) i 2;

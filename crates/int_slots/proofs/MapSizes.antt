@@ -9,12 +9,12 @@ use Rattle.digest.specs.Home.{slotsFit}
 use Rattle.kinds.specs.Calls.{sizedOf}
 use Rattle.kinds.specs.Columns.{values}
 use Rattle.kinds.proofs.Sizing.{sized-as}
-use Rattle.int_slots.specs.Memory.{Cells, fitting}
+use Rattle.int_slots.specs.Memory.{IntMemory, fitting}
 use Rattle.int_slots.specs.Maps.{maps}
 use Rattle.int_slots.proofs.Sizes.{fitting-says}
 use Rattle.int_slots.proofs.Bridge.{sized-is, sized-short}
 
-module _ (m : Cells values) where
+module _ (m : IntMemory values) where
   -- the sizes, from their tests
   pub map-fits-all : {b : Bool} → length (m .marks) ≡ length (m .words) → length (m .marks) ≡ length (m .keys) → b ≡ slotsFit (length (m .marks)) → b ≡ sizedOf maps m
   unfolding sizedOf

@@ -14,7 +14,7 @@ use Rattle.kinds.specs.declared.Probed.{Probed}
 use Rattle.kinds.specs.declared.Probed.the-variants.{Hit, Free, Refused}
 use Rattle.kinds.specs.Columns.{Column, values}
 use Rattle.kinds.specs.Probing.{along}
-use Rattle.int_slots.specs.Memory.{Cells, cells, fitting}
+use Rattle.int_slots.specs.Memory.{IntMemory, intStore, fitting}
 use Rattle.int_slots.specs.Probing.{probing}
 use Rattle.int_slots.specs.Seeking.{probingBeside, probingMap}
 use Rattle.kinds.proofs.Bridge.{seenOf, spotOf}
@@ -33,23 +33,23 @@ module _ {K W : Type 0} (M : Store K W) (m : M .State) (k : K) (e : M .sized m �
   unfolding entry need
   entry-unsized = rw e
 
-module _ {W : Type 0} (C : Column W) (m : Cells C) (k : ℕ) where
-  by-long : {A : Type 0} (a : A) (f : Probed → A) → (probingBeside C m k ≡ probing (m .marks) (m .keys) k → C .long (m .words) (length (m .marks)) ≡ true → a ≡ f (probingBeside C m k)) → (cells C .sized m ≡ false → a ≡ f (Refused Sizes)) → a ≡ f (probingBeside C m k)
+module _ {W : Type 0} (C : Column W) (m : IntMemory C) (k : ℕ) where
+  by-long : {A : Type 0} (a : A) (f : Probed → A) → (probingBeside C m k ≡ probing (m .marks) (m .keys) k → C .long (m .words) (length (m .marks)) ≡ true → a ≡ f (probingBeside C m k)) → (intStore C .sized m ≡ false → a ≡ f (Refused Sizes)) → a ≡ f (probingBeside C m k)
   unfolding probingBeside
   by-long a f long short = by-bool (C .long (m .words) (length (m .marks))) (λ e. long (rw e) e) (λ e. rw e (short (sized-short C m e)))
 
   -- get, remove and entry by what the probing found
-  pub get-probed : get (cells C) m k ≡ seenOf (C .read (m .words)) (probingBeside C m k)
-  get-probed = by-long (get (cells C) m k) (seenOf (C .read (m .words))) (λ p e. get-probing C m k p refl e) (λ e. get-unsized (cells C) m k e)
+  pub get-probed : get (intStore C) m k ≡ seenOf (C .read (m .words)) (probingBeside C m k)
+  get-probed = by-long (get (intStore C) m k) (seenOf (C .read (m .words))) (λ p e. get-probing C m k p refl e) (λ e. get-unsized (intStore C) m k e)
 
-  pub remove-probed : remove (cells C) m k ≡ seenOf (C .read (m .words)) (probingBeside C m k)
-  remove-probed = by-long (remove (cells C) m k) (seenOf (C .read (m .words))) (λ p e. remove-probing C m k p refl e) (λ e. remove-unsized (cells C) m k e)
+  pub remove-probed : remove (intStore C) m k ≡ seenOf (C .read (m .words)) (probingBeside C m k)
+  remove-probed = by-long (remove (intStore C) m k) (seenOf (C .read (m .words))) (λ p e. remove-probing C m k p refl e) (λ e. remove-unsized (intStore C) m k e)
 
-  pub entry-probed : entry (cells C) m k ≡ spotOf (C .read (m .words)) (probingBeside C m k)
-  entry-probed = by-long (entry (cells C) m k) (spotOf (C .read (m .words))) (λ p e. entry-probing C m k p refl e) (λ e. entry-unsized (cells C) m k e)
+  pub entry-probed : entry (intStore C) m k ≡ spotOf (C .read (m .words)) (probingBeside C m k)
+  entry-probed = by-long (entry (intStore C) m k) (spotOf (C .read (m .words))) (λ p e. entry-probing C m k p refl e) (λ e. entry-unsized (intStore C) m k e)
 
   -- right sizes: the probing is the path
-  pub path-probed : cells C .sized m ≡ true → probingBeside C m k ≡ along (length (m .marks)) (homeOfWord 0 (length (m .marks)) k) (path (cells C) m k)
+  pub path-probed : intStore C .sized m ≡ true → probingBeside C m k ≡ along (length (m .marks)) (homeOfWord 0 (length (m .marks)) k) (path (intStore C) m k)
   unfolding probingBeside
   path-probed e = let (a, b) = both (fitting (m .marks) (m .keys)) (C .long (m .words) (length (m .marks))) (sym (sized-is C m) ∙ e) in rw b (probing-path C m k a)
 
@@ -70,7 +70,7 @@ module _ {W : Type 0} (C : Column W) (m : Cells C) (k : ℕ) where
         let (a, b) = free-slot (m .marks) (m .keys) k x q in (a, b, l)
 
 -- the probing in a map, from its own tests
-module _ (m : Cells values) (k : ℕ) where
+module _ (m : IntMemory values) (k : ℕ) where
   pub map-probe-long : {r : Probed} → length (m .marks) ≡ length (m .words) → r ≡ probing (m .marks) (m .keys) k → r ≡ probingMap m k
   unfolding probingMap probingBeside
   map-probe-long e p = rw (eq-eqb (length (m .marks)) (length (m .words)) e) p

@@ -4,27 +4,27 @@ use Rattle.model.specs.Calls.{get, entry, after-insert, occupied-remove, after-
 use Rattle.answers.specs.declared.Numbers.{Numbers}
 use Rattle.answers.specs.Said.{doneSaid, insertedSaid, addedSaid, memberSaid, takenEntrySaid}
 use Rattle.kinds.specs.Columns.{values, nothing}
-use Rattle.kinds.specs.Told.{Told, told}
-use Rattle.int_slots.specs.Memory.{Cells}
+use Rattle.kinds.specs.Told.{ToldAndLeft, told}
+use Rattle.int_slots.specs.Memory.{IntMemory}
 use Rattle.int_slots.specs.Maps.{maps}
 use Rattle.int_slots.specs.Sets.{sets}
 
 -- A map's insert: the key's value changes in its slot, or the first free slot of its path takes the key.
-unfoldable pub insertOf : Cells values → ℕ → ℕ → Told (Cells values)
+unfoldable pub insertOf : IntMemory values → ℕ → ℕ → ToldAndLeft (IntMemory values)
 insertOf m k v = told (insertedSaid (entry maps m k)) (after-insert maps m k v)
 
 -- Whether a vacant handle of a map is good: insert would use its very slot.
-unfoldable pub vacancyOf : Cells values → ℕ → ℕ → Numbers
+unfoldable pub vacancyOf : IntMemory values → ℕ → ℕ → Numbers
 vacancyOf m s k = doneSaid (vacancy maps m s k)
 
 -- An occupied handle's remove_entry: the slot is freed, and the key is told beside its value.
-unfoldable pub removeEntryOf : Cells values → ℕ → ℕ → Told (Cells values)
+unfoldable pub removeEntryOf : IntMemory values → ℕ → ℕ → ToldAndLeft (IntMemory values)
 removeEntryOf m s k = told (takenEntrySaid k (occupied-remove maps m s k)) (after-drop maps m s k)
 
 -- A set's insert: the first free slot of the key's path takes it; a key that is there stores nothing.
-unfoldable pub setInsertOf : Cells nothing → ℕ → Told (Cells nothing)
+unfoldable pub setInsertOf : IntMemory nothing → ℕ → ToldAndLeft (IntMemory nothing)
 setInsertOf m k = told (addedSaid (entry sets m k)) (after-insert sets m k tt)
 
 -- A set's get: the key itself, where it is there.
-unfoldable pub setGetOf : Cells nothing → ℕ → Numbers
+unfoldable pub setGetOf : IntMemory nothing → ℕ → Numbers
 setGetOf m k = memberSaid k (get sets m k)

@@ -13,7 +13,7 @@ use Rattle.kinds.specs.Columns.{Column, values}
 use Rattle.kinds.specs.Marks.{cellsOf, wordsOf}
 
 -- Marks, keys, and what stands beside the keys.
-pub record Cells {W : Type 0} (C : Column W) : Type 0 where
+pub record IntMemory {W : Type 0} (C : Column W) : Type 0 where
   pub marks : List ℕ
   pub keys : List ℕ
   pub words : C .Words
@@ -23,9 +23,9 @@ abbrev pub integers : Keys ℕ
 integers = record { same = λ a b. eqb b a; right = λ a b e. sym (eqb-true b a e); self = λ a. eq-eqb a a refl }
 
 -- An integer table as a store. Keys take no arena bytes and have no refusal of their own; a storing call examines its path alone.
-abbrev pub cells : {W : Type 0} (C : Column W) → Store ℕ W
-cells C = record {
-  State = Cells C;
+abbrev pub intStore : {W : Type 0} (C : Column W) → Store ℕ W
+intStore C = record {
+  State = IntMemory C;
   keys = integers;
   weight = λ k. 0;
   size = λ m. length (m .marks);
@@ -35,7 +35,7 @@ cells C = record {
   sized = λ m. slotsFit (length (m .marks)) && (eqb (length (m .marks)) (length (m .keys)) && C .long (m .words) (length (m .marks)));
   asked = λ k. 0;
   kept = λ k. 0;
-  harmed = λ m. false;
+  damagedFully = λ m. false;
   good = λ m. Unit {0};
   over = λ m i v. record { marks = m .marks; keys = m .keys; words = C .write (m .words) i v };
   fill = λ m i k v. record { marks = set (m .marks) i 1; keys = set (m .keys) i k; words = C .write (m .words) i v };
@@ -48,5 +48,5 @@ unfoldable pub fitting : List ℕ → List ℕ → Bool
 fitting marks keys = slotsFit (length marks) && eqb (length marks) (length keys)
 
 -- The lent lists of a map.
-abbrev pub memory : List ℕ → List ℕ → List ℕ → Cells values
+abbrev pub memory : List ℕ → List ℕ → List ℕ → IntMemory values
 memory marks keys vs = record { marks = marks; keys = keys; words = vs }

@@ -6,14 +6,14 @@ use lib.Dec.{eqb}
 use lib.ListN.{getD}
 use Rattle.model.specs.Places.{Places}
 use Rattle.kinds.specs.Columns.{Column}
-use Rattle.int_slots.specs.Memory.{Cells, cells}
+use Rattle.int_slots.specs.Memory.{IntMemory, intStore}
 
 -- A slot's mark, its key, and what stands beside the key.
 pub data Place : Type 0 where
   mark-at key-at beside-at : ℕ → Place
 
 -- What stands in a place.
-unfoldable pub wordIn : {W : Type 0} (C : Column W) → Cells C → Place → ℕ ⊎ W
+unfoldable pub wordIn : {W : Type 0} (C : Column W) → IntMemory C → Place → ℕ ⊎ W
 wordIn C m (mark-at i) = inl (getD (m .marks) i 0)
 wordIn C m (key-at i) = inl (getD (m .keys) i 0)
 wordIn C m (beside-at i) = inr (C .read (m .words) i)
@@ -31,7 +31,7 @@ slotNames i (key-at j) = eqb j i
 slotNames i (beside-at j) = eqb j i
 
 -- The places of an integer table.
-abbrev pub places : {W : Type 0} (C : Column W) → Places (cells C)
+abbrev pub places : {W : Type 0} (C : Column W) → Places (intStore C)
 places {W} C = record {
   Place = Place;
   Word = ℕ ⊎ W;

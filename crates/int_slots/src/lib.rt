@@ -56,7 +56,7 @@ fn look(mark: u8, held: u64, key: u64) -> Sight
     if mark == 2 {
         return Sight::Freed;
     }
-    Sight::Bad
+    Sight::Damaged
 }
 
 // The path of a key from its home slot, slot by slot: each break is an answer.
@@ -75,7 +75,7 @@ fn walk_path(marks: &[u8], keys: &[u64], key: u64, home: usize) -> Probed
             Sight::Freed => {
                 free = first_free(free, slot, size);
             }
-            Sight::Bad => break Probed::Refused(Refusal::Damaged),
+            Sight::Damaged => break Probed::Refused(Refusal::Damaged),
             Sight::Same => break Probed::Hit(slot, n + 1),
             Sight::Other => {}
         }
@@ -107,7 +107,7 @@ pub fn scan(marks: &[u8]) -> Scanned
     while i < marks.len() {
         let mark = marks[i];
         if 2 < mark {
-            return Scanned::Bad;
+            return Scanned::Damaged;
         }
         live += count_mark(mark);
         i += 1;
@@ -127,7 +127,7 @@ pub fn next_live(marks: &[u8], at: usize, end: usize) -> Next
             return Next::Live(i);
         }
         if 2 < here {
-            return Next::Bad;
+            return Next::Damaged;
         }
         i += 1;
     }

@@ -1,14 +1,14 @@
 -- Two tables of the same marks and keys, whatever stands beside them, have the same damage, length and weight.
 use Prim.Native.Nat.{ℕ, zero, suc}
 use mathlib.Core.Path.{_≡_, refl}
-use Rattle.model.specs.Slots.{hurts, weigh, total, damaged}
-use Rattle.model.specs.Store.{Store, live-count, hurtful}
+use Rattle.model.specs.Slots.{isDamaged, weigh, total, anyDamaged}
+use Rattle.model.specs.Store.{Store, live-count, damagedSlots}
 use Rattle.kinds.specs.Marks.{cell, cellsOf}
 use Rattle.kinds.proofs.Beside.{Beside}
 
 module _ {K W U : Type 0} where
-  hurts-alike : (m : ℕ) (k : K) (x : W) (y : U) → hurts (cell m k x) ≡ hurts (cell m k y)
-  unfolding hurts cell
+  hurts-alike : (m : ℕ) (k : K) (x : W) (y : U) → isDamaged (cell m k x) ≡ isDamaged (cell m k y)
+  unfolding isDamaged cell
   hurts-alike zero k x y = refl
   hurts-alike (suc zero) k x y = refl
   hurts-alike (suc (suc zero)) k x y = refl
@@ -22,8 +22,8 @@ module _ {K W U : Type 0} where
   weigh-alike w (suc (suc (suc m))) k x y = refl
 
   module _ (mark : ℕ → ℕ) (key : ℕ → K) (v : ℕ → W) (u : ℕ → U) where
-    damaged-alike : (n : ℕ) → damaged (cellsOf mark key v) n ≡ damaged (cellsOf mark key u) n
-    unfolding damaged
+    damaged-alike : (n : ℕ) → anyDamaged (cellsOf mark key v) n ≡ anyDamaged (cellsOf mark key u) n
+    unfolding anyDamaged
     damaged-alike zero = refl
     damaged-alike (suc n) = rw (hurts-alike (mark n) (key n) (v n) (u n), damaged-alike n)
 
@@ -34,7 +34,7 @@ module _ {K W U : Type 0} where
 
     -- such tables of one size stand beside each other
     pub stand-beside : (M : Store K W) (N : Store K U) {m : M .State} {n : N .State} → M .slots m ≡ cellsOf mark key v → N .slots n ≡ cellsOf mark key u → M .sized m ≡ N .sized n → M .size m ≡ N .size n → Beside M N m n
-    unfolding hurtful live-count
+    unfolding damagedSlots live-count
     stand-beside M N {m} {n} p q s z = record {
       sized = s;
       size = z;

@@ -3,7 +3,7 @@ use Prim.Native.Nat.{ℕ}
 use mathlib.Core.Bool.{Bool}
 use mathlib.Core.Path.{_≡_, refl}
 use Rattle.model.specs.Calls.{need, capacity, length, reserve, get}
-use Rattle.model.specs.Store.{Store, live-count, hurtful}
+use Rattle.model.specs.Store.{Store, live-count, damagedSlots}
 use Rattle.answers.specs.Said.{countSaid, emptySaid, roomSaid, containedSaid}
 use Rattle.kinds.specs.declared.Probed.{Probed}
 use Rattle.kinds.specs.declared.Probed.the-variants.{Hit, Free, Full, Refused}
@@ -14,7 +14,7 @@ use Rattle.kinds.proofs.Bridge.{seenOf}
 pub record Beside {K W U : Type 0} (M : Store K W) (N : Store K U) (m : M .State) (n : N .State) : Type 0 where
   pub sized : M .sized m ≡ N .sized n
   pub size : M .size m ≡ N .size n
-  pub damage : hurtful M m ≡ hurtful N n
+  pub damage : damagedSlots M m ≡ damagedSlots N n
   pub lives : live-count M m ≡ live-count N n
 
 module _ {K W U : Type 0} (M : Store K W) (N : Store K U) {m : M .State} {n : N .State} (b : Beside M N m n) where

@@ -6,11 +6,11 @@ use mathlib.Core.Bool.{Bool, true, false, cond}
 use mathlib.Core.Path.{_≡_, refl, sym, _∙_, ap, fun-ext}
 use native.Mathlib.Omega.{arith}
 use lib.Dec.{ltb, leb}
-use Rattle.model.specs.Slots.{Slot, never, freed, bad, live, Keys, hurts, weigh, total, count, damaged, frees}
-use Rattle.model.specs.Path.{from, at, stops, Find, hit, miss, hurt, ends, stopAt, freeAt, find}
-use Rattle.model.specs.Store.{Store, path, slotAt, live-count, used, hurtful}
+use Rattle.model.specs.Slots.{Slot, never, freed, damaged, live, Keys, isDamaged, weigh, total, count, anyDamaged, frees}
+use Rattle.model.specs.Path.{from, at, stops, Find, hit, miss, damage, ends, stopAt, freeAt, find}
+use Rattle.model.specs.Store.{Store, path, slotAt, live-count, used, damagedSlots}
 use Rattle.model.specs.Calls.{Or, no, ok, need, Seen, found, absent, Spot, occupied, vacant, seenBy, spotBy}
-use Rattle.model.specs.Walk.{halts, halted, paceTo}
+use Rattle.model.specs.Walk.{halts, halted, stepWithin}
 use Rattle.model.proofs.Cases.{by-bool, by-lt, clash}
 use Rattle.model.proofs.Path.{at-below, hit-at, from-low, from-here}
 use Rattle.model.proofs.Slots.{count-high}
@@ -45,7 +45,7 @@ abbrev pub spotOf : {W : Type 0} → (ℕ → W) → Probed → Or (Spot W)
 spotOf read p = spotIn true read p
 
 -- what holds of each kind of slot, whatever its key and value, holds of each mark
-same-cell : {K L W : Type 0} {a : K} {b : L} {v : W} (P : Slot K W → Slot L (Unit {0}) → Type 0) → P never never → P freed freed → P bad bad → P (live a v) (live b tt) → (m : ℕ) → P (cell m a v) (cell m b tt)
+same-cell : {K L W : Type 0} {a : K} {b : L} {v : W} (P : Slot K W → Slot L (Unit {0}) → Type 0) → P never never → P freed freed → P damaged damaged → P (live a v) (live b tt) → (m : ℕ) → P (cell m a v) (cell m b tt)
 unfolding cell
 same-cell P p q r s zero = p
 same-cell P p q r s (suc zero) = s
@@ -66,9 +66,9 @@ module _ {K W : Type 0} (a : K) (v : W) where
   unfolding ends along
   ends-cell S h n f = same-cell (λ s t. along S h (ends n f s) ≡ along S h (ends n f t)) refl refl refl refl
 
-  hurts-cell : (m : ℕ) → hurts (cell m a v) ≡ hurts (cell m (tt {0}) (tt {0}))
-  unfolding hurts
-  hurts-cell = same-cell (λ s t. hurts s ≡ hurts t) refl refl refl refl
+  hurts-cell : (m : ℕ) → isDamaged (cell m a v) ≡ isDamaged (cell m (tt {0}) (tt {0}))
+  unfolding isDamaged
+  hurts-cell = same-cell (λ s t. isDamaged s ≡ isDamaged t) refl refl refl refl
 
   weigh-cell : (m : ℕ) → weigh (λ x. 1) (cell m a v) ≡ weigh (λ x. 1) (cell m (tt {0}) (tt {0}))
   unfolding weigh
@@ -104,8 +104,8 @@ module _ {K W : Type 0} (mark : ℕ → ℕ) (key : ℕ → K) (v : ℕ → W) w
         rw (stop-cell, free-cell) (by-bool (ltb s S) (λ e. rw e (ends-cell (key (at S h s)) (v (at S h s)) S h s f (mark (at S h s)))) (λ e. rw e))
 
   -- the scan sees what the table's own count and damage are
-  damaged-cells : (n : ℕ) → damaged (marksOnly mark) n ≡ damaged (cellsOf mark key v) n
-  unfolding damaged
+  damaged-cells : (n : ℕ) → anyDamaged (marksOnly mark) n ≡ anyDamaged (cellsOf mark key v) n
+  unfolding anyDamaged
   damaged-cells zero = refl
   damaged-cells (suc n) = rw (hurts-cell (key n) (v n) (mark n), damaged-cells n)
 
@@ -126,8 +126,8 @@ module _ {K W : Type 0} (mark : ℕ → ℕ) (key : ℕ → K) (v : ℕ → W) w
   from-cells : (w g : ℕ) → from (λ i. halts (cellsOf mark key v i)) g w ≡ from (λ i. halts (marksOnly mark i)) g w
   from-cells w g = ap (λ (f : ℕ → Bool). from f g w) (fun-ext (λ i. halts-cell (key i) (v i) (mark i)))
 
-  pub nexting-pace : (w g : ℕ) → paceTo (cellsOf mark key v) w g ≡ steppedBy key v w (aheadBy (w + g) (nextingOf mark w (w + g)))
-  unfolding paceTo nextingOf aheadBy steppedBy
+  pub nexting-pace : (w g : ℕ) → stepWithin (cellsOf mark key v) w g ≡ steppedBy key v w (aheadBy (w + g) (nextingOf mark w (w + g)))
+  unfolding stepWithin nextingOf aheadBy steppedBy
   nexting-pace w g =
       let d : w + g - w ≡ g = omega arith in
       let j = from (λ i. halts (marksOnly mark i)) g w in
@@ -140,7 +140,7 @@ at-live : {K W : Type 0} (x j : ℕ) (s : Slot K W) → nextAt x s ≡ next.Live
 unfolding nextAt
 at-live x j never e = clash cc
 at-live x j freed e = clash cc
-at-live x j bad e = clash cc
+at-live x j damaged e = clash cc
 at-live x j (live a v) e = cc
 
 -- a live slot that the stretch from w to e gives is in it
@@ -166,7 +166,7 @@ module _ {K W : Type 0} (M : Store K W) (m : M .State) (k : K) (inside : M .home
   unfolding along slotAt
   along-hit (hit n v) q {s} {e} w = let z : slotAt M m k n ≡ s = cc in omega (arith, hit-inside n v q)
   along-hit (miss e f) q w = by-bool (ltb f (M .size m)) (λ t. clash (cc (rw t at w))) (λ t. clash (cc (rw t at w)))
-  along-hit hurt q w = clash cc
+  along-hit damage q w = clash cc
 
   along-free : (x : Find W) → {s e : ℕ} → along (M .size m) (M .home m k) x ≡ Free s e → s < M .size m
   unfolding along slotAt
@@ -174,7 +174,7 @@ module _ {K W : Type 0} (M : Store K W) (m : M .State) (k : K) (inside : M .home
   along-free (miss e′ f) {s} {e} w = by-lt f (M .size m)
       (λ l t. let u : Free (slotAt M m k f) e′ ≡ Free s e = rw t at w in let z : slotAt M m k f ≡ s = cc in omega (arith, slot-inside f l))
       (λ l t. clash (cc (rw t at w)))
-  along-free hurt w = clash cc
+  along-free damage w = clash cc
 
   pub hit-below : {s e : ℕ} → along (M .size m) (M .home m k) (path M m k) ≡ Hit s e → s < M .size m
   hit-below w = along-hit (path M m k) refl w
@@ -203,7 +203,7 @@ module _ {K W : Type 0} (M : Store K W) (m : M .State) (mark : ℕ → ℕ) (key
     unfolding seenBy along slotAt
     seen-along (hit n w) q = rw (hit-value k n w q)
     seen-along (miss e f) q = by-bool (ltb f (M .size m)) (λ t. rw t) (λ t. rw t)
-    seen-along hurt q = refl
+    seen-along damage q = refl
 
     pub seen-path : seenBy M m k (path M m k) ≡ seenOf v (along (M .size m) (M .home m k) (path M m k))
     seen-path = seen-along (path M m k) refl
@@ -213,23 +213,23 @@ module _ {K W : Type 0} (M : Store K W) (m : M .State) (mark : ℕ → ℕ) (key
     unfolding spotBy along slotAt need
     spot-along (hit n w) q = rw (hit-value k n w q)
     spot-along (miss e f) q = by-bool (ltb f (M .size m)) (λ t. rw t (by-bool (leb (M .weight k) (M .bytes m - used M m)) (λ r. rw r) (λ r. rw r))) (λ t. rw t)
-    spot-along hurt q = refl
+    spot-along damage q = refl
 
     pub spot-path : spotBy M m k (path M m k) ≡ spotIn (leb (M .weight k) (M .bytes m - used M m)) v (along (M .size m) (M .home m k) (path M m k))
     spot-path = spot-along (path M m k) refl
 
   -- the scan is the store's own damage and length
-  pub scanning-cells : scanningOf mark (M .size m) ≡ cond (hurtful M m) scanned.Bad (scanned.Live (live-count M m))
-  unfolding scanningOf hurtful live-count
+  pub scanning-cells : scanningOf mark (M .size m) ≡ cond (damagedSlots M m) scanned.Damaged (scanned.Live (live-count M m))
+  unfolding scanningOf damagedSlots live-count
   scanning-cells = rw (stand, damaged-cells mark key v (M .size m), count-cells mark key v (M .size m))
 
   module _ {r : Scanned} (p : r ≡ scanningOf mark (M .size m)) where
-    pub scan-bad : r ≡ scanned.Bad → hurtful M m ≡ true
-    scan-bad q = by-bool (hurtful M m) (λ h. h) (λ h. clash (cc (rw h at scanning-cells)))
+    pub scan-bad : r ≡ scanned.Damaged → damagedSlots M m ≡ true
+    scan-bad q = by-bool (damagedSlots M m) (λ h. h) (λ h. clash (cc (rw h at scanning-cells)))
 
-    pub scan-live : {n : ℕ} → r ≡ scanned.Live n → (hurtful M m ≡ false) × (live-count M m ≡ n) × (n ≤ M .size m)
+    pub scan-live : {n : ℕ} → r ≡ scanned.Live n → (damagedSlots M m ≡ false) × (live-count M m ≡ n) × (n ≤ M .size m)
     unfolding live-count
-    scan-live {n} q = by-bool (hurtful M m)
+    scan-live {n} q = by-bool (damagedSlots M m)
         (λ h. clash (cc (rw h at scanning-cells)))
         (λ h. let w : scanned.Live n ≡ scanned.Live (live-count M m) = sym q ∙ p ∙ (rw h at scanning-cells) in
         let z : live-count M m ≡ n = cc in

@@ -10,7 +10,7 @@ use lib.Seq.{getD-set-same, getD-set-other}
 use Rattle.kinds.specs.Columns.{Column, values, nothing}
 
 -- What a column owes: a written word is read back, the others stay, and its length stays.
-pub record Orderly {W : Type 0} (C : Column W) : Type 0 where
+pub record LawfulColumn {W : Type 0} (C : Column W) : Type 0 where
   pub read-same : (ws : C .Words) (n i : ℕ) (v : W) → C .long ws n ≡ true → i < n → C .read (C .write ws i v) i ≡ v
   pub read-other : (ws : C .Words) (i j : ℕ) (v : W) → (j ≡ i → ⊥) → C .read (C .write ws i v) j ≡ C .read ws j
   pub blank-other : (ws : C .Words) (i j : ℕ) → (j ≡ i → ⊥) → C .read (C .blank ws i) j ≡ C .read ws j
@@ -18,8 +18,8 @@ pub record Orderly {W : Type 0} (C : Column W) : Type 0 where
   pub long-blank : (ws : C .Words) (n i : ℕ) → C .long (C .blank ws i) n ≡ C .long ws n
   pub long-wipe : (ws : C .Words) (n : ℕ) → C .long (C .wipe ws) n ≡ C .long ws n
 
-pub values-orderly : Orderly values
-values-orderly = record {
+pub values-lawful : LawfulColumn values
+values-lawful = record {
   read-same = λ ws n i v e l. getD-set-same ws i v 0 (omega (arith, eqb-true n (length ws) e));
   read-other = λ ws i j v h. getD-set-other ws i j v 0 h;
   blank-other = λ ws i j h. getD-set-other ws i j 0 0 h;
@@ -28,8 +28,8 @@ values-orderly = record {
   long-wipe = λ ws n. ap (λ k. eqb n k) (length-replicate {A = ℕ} (length ws) 0);
 }
 
-pub nothing-orderly : Orderly nothing
-nothing-orderly = record {
+pub nothing-lawful : LawfulColumn nothing
+nothing-lawful = record {
   read-same = λ ws n i v e l. refl;
   read-other = λ ws i j v h. refl;
   blank-other = λ ws i j h. refl;

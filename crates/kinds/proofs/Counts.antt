@@ -5,7 +5,7 @@ use mathlib.Core.Path.{_≡_, sym, ap}
 use native.Mathlib.Omega.{arith}
 use borrow.Author.Tests.{ne-eqb, le-leb, lt-leb}
 use Rattle.model.specs.Calls.{Or, no, ok, need, length, reserve}
-use Rattle.model.specs.Store.{Store, live-count, hurtful}
+use Rattle.model.specs.Store.{Store, live-count, damagedSlots}
 use Rattle.model.proofs.Cases.{by-bool, clash}
 use Rattle.model.proofs.Slots.{count-high}
 use Rattle.answers.specs.declared.Refusal.{Refusal}
@@ -31,10 +31,10 @@ count-no (no i) r e = ap no (sym (ap (λ a. a .refusal) e))
 count-no (ok y) r e = let z : ⊥ = omega (arith, ap (λ a. a .case) e) in absurd z
 
 module _ {K W : Type 0} (M : Store K W) (m : M .State) where
-  length-ok : {n : ℕ} → length M m ≡ ok n → (M .sized m ≡ true) × (hurtful M m ≡ false) × (live-count M m ≡ n)
+  length-ok : {n : ℕ} → length M m ≡ ok n → (M .sized m ≡ true) × (damagedSlots M m ≡ false) × (live-count M m ≡ n)
   unfolding length need
   length-ok e = by-bool (M .sized m)
-      (λ s. by-bool (hurtful M m)
+      (λ s. by-bool (damagedSlots M m)
       (λ h. clash (cc (rw (s, h) at e)))
       (λ h. (s, h, cc (rw (s, h) at e))))
       (λ s. clash (cc (rw s at e)))
@@ -42,7 +42,7 @@ module _ {K W : Type 0} (M : Store K W) (m : M .State) where
   reserve-no : (asked : ℕ) {i : ℕ} → length M m ≡ no i → reserve M m asked ≡ no i
   unfolding length reserve need
   reserve-no asked e = by-bool (M .sized m)
-      (λ s. by-bool (hurtful M m)
+      (λ s. by-bool (damagedSlots M m)
       (λ h. rw (s, h) (cc (rw (s, h) at e)))
       (λ h. clash (cc (rw (s, h) at e))))
       (λ s. rw s (cc (rw s at e)))
@@ -70,7 +70,7 @@ module _ {K W : Type 0} (M : Store K W) (m : M .State) where
     empty-not q = rw (counted-no q)
 
     -- reserve
-    sound-count : {n : ℕ} → r ≡ counted.Count n → (M .sized m ≡ true) × (hurtful M m ≡ false) × (live-count M m ≡ n)
+    sound-count : {n : ℕ} → r ≡ counted.Count n → (M .sized m ≡ true) × (damagedSlots M m ≡ false) × (live-count M m ≡ n)
     sound-count q = length-ok (counted-ok q)
 
     pub count-within : {n : ℕ} → r ≡ counted.Count n → n ≤ M .size m

@@ -11,10 +11,10 @@ use lib.Dec.{leb, eqb}
 use Rattle.model.specs.Slots.{live, total}
 use Rattle.model.specs.Finite.{Finite, contains, isSome, mass, len, insert as insert-in, remove as remove-from, union-prefer-right}
 use Rattle.model.specs.Store.{Store, path, pathLength, slotAt}
-use Rattle.model.specs.Calls.{Or, no, ok, need, pass, give, Seen, found, absent, Spot, occupied, vacant, seenBy, spotBy, get, entry, remove, capacity, length, reserve, copy, union, grip, occupied-get, occupied-remove, goodFor, vacancy, vacant-insert, ruined}
-use Rattle.model.specs.Walk.{Paced, pair, nothing, done, step}
+use Rattle.model.specs.Calls.{Or, no, ok, need, pass, give, Seen, found, absent, Spot, occupied, vacant, seenBy, spotBy, get, entry, remove, capacity, length, reserve, copy, union, heldAt, occupied-get, occupied-remove, goodFor, vacancy, vacant-insert, anyDamage}
+use Rattle.model.specs.Walk.{StepAnswer, pair, nothing, done, step}
 use Rattle.model.specs.Machine.{stepping}
-use Rattle.model.specs.Demand2.{grown, grips}
+use Rattle.model.specs.Demand2.{grown, holdsNow}
 use Rattle.model.specs.Lawful.{Lawful, Shows}
 use Rattle.model.proofs.Cases.{by-bool, by-lt, by-eq, clash}
 use Rattle.model.proofs.Path.{hit-examined, miss-examined}
@@ -28,7 +28,7 @@ use Rattle.model.specs.Demand3.{unrefused}
 use Rattle.model.proofs.Exact.{seenFor, spotFor, heldFor, seen-is, spot-is, grip-is, length-is, reserve-is}
 use Rattle.model.proofs.Numbered.{Numbered, numbered-no, numbered-ok, get-numbered, remove-numbered, entry-numbered}
 use Rattle.answers.specs.declared.Numbers.{Numbers}
-use Rattle.kinds.specs.Owed.{refusing, moving, unless, byMap, lastSlot, openSlot, admitting, copying, looking, placing, gripping, vacates, opening, lacked, joining, Paces, no-budget, beyond, ended, hands, passes}
+use Rattle.kinds.specs.Owed.{refusing, moving, unless, byMap, lastSlot, openSlot, admitting, copying, looking, placing, holding, vacates, opening, lacked, joining, OwesStep, no-budget, beyond, ended, hands, passes}
 
 -- what is said of a refusal: its number, and zeros elsewhere
 abbrev pub Plainly : {A : Type 0} → (Or A → Numbers) → Type 0
@@ -40,7 +40,7 @@ passed said z zero a r e = e
 passed said z (suc n) a r e = z (suc n)
 
 module _ {K W : Type 0} (M : Store K W) (L : Lawful M) (m : M .State) (f : Finite K W) (s : Shows M m f) where
-  calm : M .harmed m ≡ false
+  calm : M .damagedFully m ≡ false
   calm = shows-unharmed M L m f s
 
   seen-told : (said : Or (Seen W) → Numbers) (present : W → ℕ → ℕ → Numbers) (gone : ℕ → Numbers) → ((v : W) (i e : ℕ) → said (ok (found v i e)) ≡ present v i e) → ((e : ℕ) → said (ok (absent e)) ≡ gone e) → (k : K) → said (seenBy M m k (path M m k)) ≡ byMap (f .look k) (λ v. present v (lastSlot M m k) (pathLength M m k)) (gone (pathLength M m k))
@@ -54,17 +54,17 @@ module _ {K W : Type 0} (M : Store K W) (L : Lawful M) (m : M .State) (f : Finit
   -- get and contains
   pub get-owed : (said : Or (Seen W) → Numbers) (present : W → ℕ → ℕ → Numbers) (gone : ℕ → Numbers) → Plainly said → ((v : W) (i e : ℕ) → said (ok (found v i e)) ≡ present v i e) → ((e : ℕ) → said (ok (absent e)) ≡ gone e) → (k : K) → said (get M m k) ≡ looking M m f k present gone
   unfolding get looking need
-  get-owed said present gone z p q k = rw (s .healthy .sized) (passed said z (M .asked k) (seenBy M m k (path M m k)) _ (seen-told said present gone p q k))
+  get-owed said present gone z p q k = rw (s .soundTable .sized) (passed said z (M .asked k) (seenBy M m k (path M m k)) _ (seen-told said present gone p q k))
 
   -- remove
   pub remove-owed : (said : Or (Seen W) → Numbers) (present : W → ℕ → ℕ → Numbers) (gone : ℕ → Numbers) → Plainly said → ((v : W) (i e : ℕ) → said (ok (found v i e)) ≡ present v i e) → ((e : ℕ) → said (ok (absent e)) ≡ gone e) → (k : K) → said (remove M m k) ≡ looking M m f k present gone
   unfolding remove looking need
-  remove-owed said present gone z p q k = rw (s .healthy .sized, calm) (passed said z (M .asked k) (seenBy M m k (path M m k)) _ (seen-told said present gone p q k))
+  remove-owed said present gone z p q k = rw (s .soundTable .sized, calm) (passed said z (M .asked k) (seenBy M m k (path M m k)) _ (seen-told said present gone p q k))
 
   -- insert and entry
   pub entry-owed : (said : Or (Spot W) → Numbers) (present : W → ℕ → ℕ → Numbers) (fresh : ℕ → ℕ → Numbers) → Plainly said → ((v : W) (i e : ℕ) → said (ok (occupied i v e)) ≡ present v i e) → ((i e : ℕ) → said (ok (vacant i e)) ≡ fresh i e) → (k : K) → said (entry M m k) ≡ placing M m f k present fresh
   unfolding entry placing need admitting spotFor byMap lastSlot openSlot
-  entry-owed said present fresh z p q k = rw (s .healthy .sized, calm) (passed said z (M .kept k) (spotBy M m k (path M m k)) _ (rw (spot-is M L m f s k)
+  entry-owed said present fresh z p q k = rw (s .soundTable .sized, calm) (passed said z (M .kept k) (spotBy M m k (path M m k)) _ (rw (spot-is M L m f s k)
       (by-bool (leb (mass (λ a. 1) (grown M f k)) (M .size m))
       (λ a. by-bool (leb (mass (M .weight) (grown M f k)) (M .bytes m)) (λ b. rw (a, b) (go (f .look k))) (λ b. rw (a, b) (z 8)))
       (λ a. rw a (z 7)))))
@@ -73,23 +73,23 @@ module _ {K W : Type 0} (M : Store K W) (L : Lawful M) (m : M .State) (f : Finit
       go none = q (openSlot M m k) (pathLength M m k)
       go (some v) = p v (lastSlot M m k) (pathLength M m k)
 
-  grip-told : (said : Or W → Numbers) (held : W → Numbers) → Plainly said → ((v : W) → said (ok v) ≡ held v) → (i : ℕ) (k : K) → said (grip M m i k) ≡ cond (grips M m i k) (byMap (f .look k) held (refusing 6 0)) (refusing 6 0)
+  grip-told : (said : Or W → Numbers) (held : W → Numbers) → Plainly said → ((v : W) → said (ok v) ≡ held v) → (i : ℕ) (k : K) → said (heldAt M m i k) ≡ cond (holdsNow M m i k) (byMap (f .look k) held (refusing 6 0)) (refusing 6 0)
   unfolding heldFor byMap
-  grip-told said held z p i k = rw (grip-is M L m f s i k) (by-bool (grips M m i k) (λ e. rw e (go (f .look k))) (λ e. rw e (z 6)))
+  grip-told said held z p i k = rw (grip-is M L m f s i k) (by-bool (holdsNow M m i k) (λ e. rw e (go (f .look k))) (λ e. rw e (z 6)))
     where
       go : (o : Option W) → said (heldFor o) ≡ byMap o held (refusing 6 0)
       go none = z 6
       go (some v) = p v
 
   -- an occupied handle's get and set
-  pub held-owed : (said : Or W → Numbers) (held : W → Numbers) → Plainly said → ((v : W) → said (ok v) ≡ held v) → (i : ℕ) (k : K) → said (occupied-get M m i k) ≡ gripping M m f i k held
-  unfolding occupied-get gripping need
-  held-owed said held z p i k = rw (s .healthy .sized) (passed said z (M .asked k) (grip M m i k) _ (grip-told said held z p i k))
+  pub held-owed : (said : Or W → Numbers) (held : W → Numbers) → Plainly said → ((v : W) → said (ok v) ≡ held v) → (i : ℕ) (k : K) → said (occupied-get M m i k) ≡ holding M m f i k held
+  unfolding occupied-get holding need
+  held-owed said held z p i k = rw (s .soundTable .sized) (passed said z (M .asked k) (heldAt M m i k) _ (grip-told said held z p i k))
 
   -- its remove
-  pub taken-owed : (said : Or W → Numbers) (held : W → Numbers) → Plainly said → ((v : W) → said (ok v) ≡ held v) → (i : ℕ) (k : K) → said (occupied-remove M m i k) ≡ gripping M m f i k held
-  unfolding occupied-remove gripping need
-  taken-owed said held z p i k = rw (s .healthy .sized, calm) (passed said z (M .asked k) (grip M m i k) _ (grip-told said held z p i k))
+  pub taken-owed : (said : Or W → Numbers) (held : W → Numbers) → Plainly said → ((v : W) → said (ok v) ≡ held v) → (i : ℕ) (k : K) → said (occupied-remove M m i k) ≡ holding M m f i k held
+  unfolding occupied-remove holding need
+  taken-owed said held z p i k = rw (s .soundTable .sized, calm) (passed said z (M .asked k) (heldAt M m i k) _ (grip-told said held z p i k))
 
   -- a vacant handle
   good-told : (said : Or (Unit {0}) → Numbers) (n : Numbers) → Plainly said → said (ok tt) ≡ n → (i : ℕ) (k : K) → said (goodFor M i (spotBy M m k (path M m k))) ≡ cond (vacates M m f i k) n (refusing 6 0)
@@ -109,7 +109,7 @@ module _ {K W : Type 0} (M : Store K W) (L : Lawful M) (m : M .State) (f : Finit
 
   pub filled-owed : (said : Or W → Numbers) (v : W) (n : Numbers) → Plainly said → said (ok v) ≡ n → (i : ℕ) (k : K) → said (vacant-insert M m i k v) ≡ opening M m f i k n
   unfolding vacant-insert vacancy opening need give
-  filled-owed said v n z p i k = rw (s .healthy .sized, calm) (passed (λ o. said (give v o)) (λ r. z r) (M .kept k) (goodFor M i (spotBy M m k (path M m k))) _ (good-told (λ o. said (give v o)) n (λ r. z r) p i k))
+  filled-owed said v n z p i k = rw (s .soundTable .sized, calm) (passed (λ o. said (give v o)) (λ r. z r) (M .kept k) (goodFor M i (spotBy M m k (path M m k))) _ (good-told (λ o. said (give v o)) n (λ r. z r) p i k))
 
   -- length, reserve, copy, union
   pub length-owed : (said : Or ℕ → Numbers) (n : Numbers) → said (ok (len f)) ≡ n → said (length M m) ≡ n
@@ -117,7 +117,7 @@ module _ {K W : Type 0} (M : Store K W) (L : Lawful M) (m : M .State) (f : Finit
 
   pub capacity-owed : (said : Or ℕ → Numbers) (n : Numbers) → said (ok (M .size m)) ≡ n → said (capacity M m) ≡ n
   unfolding capacity need
-  capacity-owed said n p = rw (s .healthy .sized) p
+  capacity-owed said n p = rw (s .soundTable .sized) p
 
   pub reserve-owed : (said : Or (Unit {0}) → Numbers) (n : Numbers) → Plainly said → said (ok tt) ≡ n → (a : ℕ) → said (reserve M m a) ≡ cond (leb a (M .size m - len f)) n (refusing 7 0)
   unfolding need
@@ -125,7 +125,7 @@ module _ {K W : Type 0} (M : Store K W) (L : Lawful M) (m : M .State) (f : Finit
 
   pub copy-owed : (said : Or (Unit {0}) → Numbers) (n : Numbers) → Plainly said → said (ok tt) ≡ n → (o : M .State) → said (copy M m o) ≡ copying M m o n
   unfolding copy copying need
-  copy-owed said n z p o = rw (s .healthy .sized) (by-bool (M .sized o)
+  copy-owed said n z p o = rw (s .soundTable .sized) (by-bool (M .sized o)
       (λ a. rw a (by-bool (eqb (M .size m) (M .size o)) (λ b. rw b (by-bool (eqb (M .bytes m) (M .bytes o)) (λ c. rw c p) (λ c. rw c (z 1)))) (λ b. rw b (z 1))))
       (λ a. rw a (z 1)))
 
@@ -133,7 +133,7 @@ module _ {K W : Type 0} (M : Store K W) (L : Lawful M) (m : M .State) (f : Finit
   pub union-owed : (said : Or (Unit {0}) → Numbers) (n : Numbers) → Plainly said → said (ok tt) ≡ n → (r : M .State) → said (union M m r) ≡ joining M m f r n
   unfolding joining lacked need
   union-owed said n z p r = rw (union-any M L m r f s) (by-bool (M .sized r)
-      (λ a. rw a (by-bool (ruined M r) (λ b. rw b (z 5))
+      (λ a. rw a (by-bool (anyDamage M r) (λ b. rw b (z 5))
       (λ b. rw b (by-bool (leb (total (λ k. cond (contains f k) 0 1) (M .slots r) (M .size r)) (M .size m - mass (λ k. 1) (f .dom)))
       (λ c. rw c (by-bool (leb (total (λ k. cond (contains f k) 0 (M .weight k)) (M .slots r) (M .size r)) (M .bytes m - mass (M .weight) (f .dom))) (λ d. rw d p) (λ d. rw d (z 8))))
       (λ c. rw c (z 7))))))
@@ -148,13 +148,13 @@ module _ {K W : Type 0} (M : Store K W) (L : Lawful M) (m : M .State) (f : Finit
 
 module _ {K W : Type 0} (M : Store K W) (L : Lawful M) (m : M .State) (f : Finite K W) (s : Shows M m f) where
   -- a step
-  pub step-owed : (said : Or (Paced K W) → Numbers) (a b : ℕ) (hand : K → W → ℕ → ℕ → ℕ → Numbers) → ((n : ℕ) → said (no n) ≡ refusing n a) → ((j : ℕ) (k : K) (v : W) (e : ℕ) → M .slots m j ≡ live k v → said (ok (pair k v (suc j) e)) ≡ hand k v j (suc j) e) → ((x e : ℕ) → said (ok (nothing x e)) ≡ moving 15 x e) → ((x : ℕ) → said (ok (done x)) ≡ moving 16 x 0) → Paces M m f hand a b (said (stepping M m a b))
+  pub step-owed : (said : Or (StepAnswer K W) → Numbers) (a b : ℕ) (hand : K → W → ℕ → ℕ → ℕ → Numbers) → ((n : ℕ) → said (no n) ≡ refusing n a) → ((j : ℕ) (k : K) (v : W) (e : ℕ) → M .slots m j ≡ live k v → said (ok (pair k v (suc j) e)) ≡ hand k v j (suc j) e) → ((x e : ℕ) → said (ok (nothing x e)) ≡ moving 15 x e) → ((x : ℕ) → said (ok (done x)) ≡ moving 16 x 0) → OwesStep M m f hand a b (said (stepping M m a b))
   unfolding stepping need step unrefused
-  step-owed said a b hand z p q r = rw (s .healthy .sized) (by-eq b 0
+  step-owed said a b hand z p q r = rw (s .soundTable .sized) (by-eq b 0
       (λ e t. no-budget e (rw (step-three t) (z 3)))
       (λ e t. by-lt (M .size m) a
       (λ l u. beyond (omega arith) l (rw (step-four t l) (z 4)))
-      (λ l u. go (omega arith) (step (M .size m) (M .slots m) 0 a b) refl (step-going (M .size m) (M .slots m) a b (s .healthy .sound .whole) (omega arith) l))))
+      (λ l u. go (omega arith) (step (M .size m) (M .slots m) 0 a b) refl (step-going (M .size m) (M .slots m) a b (s .soundTable .sound .whole) (omega arith) l))))
     where
       step-three : eqb b 0 ≡ true → step (M .size m) (M .slots m) 0 a b ≡ no 3
       step-three t = rw t
@@ -162,14 +162,14 @@ module _ {K W : Type 0} (M : Store K W) (L : Lawful M) (m : M .State) (f : Finit
       step-four : eqb b 0 ≡ false → M .size m < a → step (M .size m) (M .slots m) 0 a b ≡ no 4
       step-four t l = rw (t, lt-leb a (M .size m) l)
 
-      strided : (0 < b) → (y : Paced K W) → Strode (M .size m) (M .slots m) a b y → Paces M m f hand a b (said (ok y))
+      strided : (0 < b) → (y : StepAnswer K W) → Strode (M .size m) (M .slots m) a b y → OwesStep M m f hand a b (said (ok y))
       strided d y (strode-pair j k v lo hi u t c e) = hands j k v lo hi (omega arith) t
-          (sym (s .looks k) ∙ sound-look (M .keys) (M .size m) (M .home m) (home-below M L m (s .healthy)) (M .slots m) (s .healthy .sound) k j v hi t)
+          (sym (s .looks k) ∙ sound-look (M .keys) (M .size m) (M .home m) (home-below M L m (s .soundTable)) (M .slots m) (s .soundTable .sound) k j v hi t)
           (λ i o w x y g. not-between (M .slots m) i o w g (c i x y)) (rw e (p j k v (suc j - a) t))
       strided d y (strode-nothing x lo hi u c e) = passes x lo u (λ i o w g h k. not-between (M .slots m) i o w k (c i g h)) (rw e (q x (x - a)))
       strided d y (strode-done h e) = ended d h (rw (e, sym h) (r a))
 
-      go : (0 < b) → (o : Or (Paced K W)) → step (M .size m) (M .slots m) 0 a b ≡ o → unrefused o ≡ 1 → Paces M m f hand a b (said o)
+      go : (0 < b) → (o : Or (StepAnswer K W)) → step (M .size m) (M .slots m) 0 a b ≡ o → unrefused o ≡ 1 → OwesStep M m f hand a b (said o)
       go d (no n) e x = absurd (omega arith)
       go d (ok y) e x = strided d y (strode (M .size m) (M .slots m) a 0 b y e)
 
@@ -242,7 +242,7 @@ module _ {K W : Type 0} (M : Store K W) (L : Lawful M) (m : M .State) (f : Finit
 
 -- what a step owes is decided: two answers that owe it coincide
 module _ {K W : Type 0} (M : Store K W) (m : M .State) (f : Finite K W) (hand : K → W → ℕ → ℕ → ℕ → Numbers) (a b : ℕ) (n o : Numbers) where
-  pub paces-once : Paces M m f hand a b n → Paces M m f hand a b o → n ≡ o
+  pub paces-once : OwesStep M m f hand a b n → OwesStep M m f hand a b o → n ≡ o
   paces-once (no-budget p q) (no-budget r t) = q ∙ sym t
   paces-once (no-budget p q) (beyond r t u) = absurd (omega arith)
   paces-once (no-budget p q) (ended r t u) = absurd (omega arith)

@@ -11,13 +11,13 @@ use Rattle.model.specs.Slots.{live, look}
 use Rattle.model.specs.Finite.{Finite, isSome, empty, insert, remove}
 use Rattle.model.specs.Store.{Store}
 use Rattle.model.specs.Calls.{Or, no, ok}
-use Rattle.model.specs.Walk.{Paced, pair, nothing, done}
+use Rattle.model.specs.Walk.{StepAnswer, pair, nothing, done}
 use Rattle.model.specs.Machine as model
-use Rattle.model.specs.Machine.{Own, inserts, removes, own, copies, unions, steps, Answer, refused, fine, number, truth, seen, spot, value, paced, report, World, placed, answer, turned}
+use Rattle.model.specs.Machine.{Own, inserts, removes, own, copies, unions, steps, Answer, refused, fine, number, truth, seen, spot, value, stepped, report, World, placed, answer, turned}
 use Rattle.model.specs.Lawful.{Lawful, Steady}
 use Rattle.model.specs.Demand1.{Least, KeyBar, rows, refusal, numberIn}
 use Rattle.model.specs.Demand2.{refuses, becomes, next, renews, grows, mapped, joined, Book, booked}
-use Rattle.model.specs.Demand3.{walkAfter, handed, Walked, Orderly}
+use Rattle.model.specs.Demand3.{walkAfter, handed, Walked, LawfulMachine}
 use Rattle.model.specs.Tables.{Sure}
 use Rattle.model.specs.Iterated.{onlySteps, Iterated}
 use Rattle.model.specs.Places.{Places, Apart, names}
@@ -41,7 +41,7 @@ not-not false = refl
 
 module _ {K W : Type 0} where
   -- a step's numbers, heard, are the step: where no refusal is 0, and a pair's numbers tell its key and value
-  pub heard-step : (key : Numbers → K) (val : Numbers → W) (hand : K → W → ℕ → ℕ → Numbers) (a : ℕ) (o : Or (Paced K W)) → Numbered o → ((k : K) (v : W) (x e : ℕ) → o ≡ ok (pair k v x e) → (hand k v x e .refusal ≡ 0) × (hand k v x e .case ≡ 14) × (key (hand k v x e) ≡ k) × (val (hand k v x e) ≡ v) × (hand k v x e .walk ≡ x) × (hand k v x e .examined ≡ e)) → heardAs key val (stepSaid hand a o) ≡ o
+  pub heard-step : (key : Numbers → K) (val : Numbers → W) (hand : K → W → ℕ → ℕ → Numbers) (a : ℕ) (o : Or (StepAnswer K W)) → Numbered o → ((k : K) (v : W) (x e : ℕ) → o ≡ ok (pair k v x e) → (hand k v x e .refusal ≡ 0) × (hand k v x e .case ≡ 14) × (key (hand k v x e) ≡ k) × (val (hand k v x e) ≡ v) × (hand k v x e .walk ≡ x) × (hand k v x e .examined ≡ e)) → heardAs key val (stepSaid hand a o) ≡ o
   unfolding heardAs stepSaid
   heard-step key val hand a o (numbered-no n) h = rw (ne-eqb (suc n) 0 (λ e. omega arith))
   heard-step key val hand a o (numbered-ok (pair k v x e)) h = let (p, c, q, r, w, d) = h k v x e refl in rw (q, r, w, d, p, c)
@@ -64,7 +64,7 @@ module _ {K W : Type 0} where
   accepted-zero (seen s) e = refl
   accepted-zero (spot s) e = refl
   accepted-zero (value v) e = refl
-  accepted-zero (paced p) e = refl
+  accepted-zero (stepped p) e = refl
 
 module _ {K W : Type 0} (M : Store K W) (P : Published M) (N : Linked M P) where
   -- Demand 1: on any memory each call tells the lowest refusal that applies by the scope's table, and 0 where none does.
@@ -154,15 +154,15 @@ module _ {K W : Type 0} (M : Store K W) (P : Published M) (N : Linked M P) where
   after-sure L x S s y c f a = subst (λ t. Sure M x S t) (sym (noted-booked s y c)) (booked-sure M L x S s f y (P .meant (s .world) y c) (subst (λ t. isSome (t .maps x) ≡ true) (noted-booked s y c) a))
 
   -- Demand 3: a walk by its published steps, heard by what they tell.
-  pub walks-orderly : Lawful M → (x S : ℕ) → Orderly (walks M P x S)
-  walks-orderly L x S = record {
-    Fine = λ s. Sure M x S s;
+  pub walks-lawful : Lawful M → (x S : ℕ) → LawfulMachine (walks M P x S)
+  walks-lawful L x S = record {
+    SoundState = λ s. Sure M x S s;
     table = λ s. M .slots (s .world x);
     shows = λ s f k. sure-looks M L x S s f k;
     counts = λ s f g e. sure-counts M L x S s f g e;
     whole = λ s f i l e. sure-healthy M L x S s f .sound .whole i (rw (f .sized) l) e;
     once = λ s f i j k v u a b p q. sure-healthy M L x S s f .sound .once i j k v u (rw (f .sized) a) (rw (f .sized) b) p q;
-    after-fine = λ s c f a. after-sure L x S s (c .0) (c .1) f a;
+    after-sound = λ s c f a. after-sure L x S s (c .0) (c .1) f a;
     stands = λ s c f a e i k v u l p q. subst (λ t. M .slots (t .world x) i ≡ live k u) (sym (noted-booked s (c .0) (c .1))) (booked-stands M L x S s f (c .0) (P .meant (s .world) (c .0) (c .1)) (subst (λ t. isSome (t .maps x) ≡ true) (noted-booked s (c .0) (c .1)) a)
         (rw (told-refused M (s .world) (c .0) (P .meant (s .world) (c .0) (c .1)), not-not (eqb (refusal (answer M (s .world) (c .0) (P .meant (s .world) (c .0) (c .1)))) 0)) (rw (N .number (s .world) (c .0) (c .1)) at e))
         i k v u l p (subst (λ t. look (M .keys) (M .slots (t .world x)) S k ≡ some u) (noted-booked s (c .0) (c .1)) (sure-looks M L x S (noted M P s (c .0) (c .1)) (after-sure L x S s (c .0) (c .1) f a) k ∙ q)));
@@ -174,14 +174,14 @@ module _ {K W : Type 0} (M : Store K W) (P : Published M) (N : Linked M P) where
   sure-after L cs w x k = record { shows = noted-all-right L cs (unknown M P w) (λ y f q. clash cc); known = k; sized = refl }
 
   pub walk-told : Lawful M → (cs : List (ℕ × P .Call)) (w : World M) (x : ℕ) → isSome (afterCalls M P cs w .maps x) ≡ true → Walked (walkOf M P cs w x) (afterCalls M P cs w)
-  unfolding walks-orderly
+  unfolding walks-lawful
   walk-told L cs w x k =
       let s : Book M = afterCalls M P cs w in
-      demand-3 (walks M P x (M .size (s .world x))) (walks-orderly L x (M .size (s .world x))) s (sure-after L cs w x k)
+      demand-3 (walks M P x (M .size (s .world x))) (walks-lawful L x (M .size (s .world x))) s (sure-after L cs w x k)
 
   -- With no call in between: upstream's clauses for iter, keys and values.
   pub iterated-told : Lawful M → (cs : List (ℕ × P .Call)) (w : World M) (x : ℕ) (f : Finite K W) → afterCalls M P cs w .maps x ≡ some f → (bs : List Step) → walkAfter (walkOf M P cs w x) (afterCalls M P cs w) tt 0 (onlySteps bs) ≡ M .size (afterCalls M P cs w .world x) → Iterated (M .keys) f (handed (walkOf M P cs w x) (afterCalls M P cs w) tt 0 (onlySteps bs))
-  unfolding walks-orderly isSome
+  unfolding walks-lawful isSome
   iterated-told L cs w x f k bs e =
       let s : Book M = afterCalls M P cs w in
-      walk-iterated (walks M P x (M .size (s .world x))) (walks-orderly L x (M .size (s .world x))) s (sure-after L cs w x (ap (λ o. isSome o) k)) f k bs e
+      walk-iterated (walks M P x (M .size (s .world x))) (walks-lawful L x (M .size (s .world x))) s (sure-after L cs w x (ap (λ o. isSome o) k)) f k bs e

@@ -6,7 +6,7 @@ use native.Mathlib.Numerals.{add-one}
 use native.Mathlib.Omega.{arith}
 use borrow.Author.Tests.{lt-ltb, le-ltb, ne-eqb}
 use lib.Dec.{eqb}
-use Rattle.model.specs.Slots.{bad, hurts, weigh, total, count, damaged}
+use Rattle.model.specs.Slots.{damaged, isDamaged, weigh, total, count, anyDamaged}
 use Rattle.model.specs.Path.{from}
 use Rattle.model.specs.Walk.{halts}
 use Rattle.model.proofs.Cases.{by-bool}
@@ -19,7 +19,7 @@ use Rattle.kinds.specs.Scanning.{scanningOf, nextAt, nextingOf}
 
 module _ {K W : Type 0} where
   -- a mark above 2 is damage
-  pub cell-bad : (m : ℕ) (k : K) (v : W) → 2 < m → cell m k v ≡ bad
+  pub cell-bad : (m : ℕ) (k : K) (v : W) → 2 < m → cell m k v ≡ damaged
   unfolding cell
   cell-bad zero k v l = let z : ⊥ = omega arith in absurd z
   cell-bad (suc zero) k v l = let z : ⊥ = omega arith in absurd z
@@ -27,8 +27,8 @@ module _ {K W : Type 0} where
   cell-bad (suc (suc (suc m))) k v l = refl
 
   -- others are none
-  pub cell-sound : (m : ℕ) (k : K) (v : W) → m ≤ 2 → hurts (cell m k v) ≡ false
-  unfolding cell hurts
+  pub cell-sound : (m : ℕ) (k : K) (v : W) → m ≤ 2 → isDamaged (cell m k v) ≡ false
+  unfolding cell isDamaged
   cell-sound zero k v l = refl
   cell-sound (suc zero) k v l = refl
   cell-sound (suc (suc zero)) k v l = refl
@@ -59,21 +59,21 @@ pub record Scanning (mark : ℕ → ℕ) (S live i : ℕ) : Type 0 where
   pub within : i ≤ S
   pub low : live ≤ i
   pub lives : live ≡ count (marksOnly mark) i
-  pub sound : damaged (marksOnly mark) i ≡ false
+  pub sound : anyDamaged (marksOnly mark) i ≡ false
 
 pub scan-start : (mark : ℕ → ℕ) (S : ℕ) → Scanning mark S 0 0
-unfolding total damaged
+unfolding total anyDamaged
 scan-start mark S = record { within = omega arith; low = omega arith; lives = refl; sound = refl }
 
 module _ {mark : ℕ → ℕ} {S live i : ℕ} (w : Scanning mark S live i) where
   -- the next slot's mark
   module _ {m : ℕ} (l : i < S) (p : m ≡ mark i) where
-    pub scan-bad : 2 < m → scanned.Bad ≡ scanningOf mark S
+    pub scan-bad : 2 < m → scanned.Damaged ≡ scanningOf mark S
     unfolding scanningOf
     scan-bad h = rw (damaged-bad (marksOnly mark) S i l (cell-bad (mark i) tt tt (rw p at h)))
 
     pub scan-on : {r : ℕ} → m ≤ 2 → r ≡ counted m → Scanning mark S (live + r) (i + 1)
-    unfolding total damaged
+    unfolding total anyDamaged
     scan-on {r} h e = record {
       within = omega arith;
       low = omega (arith, counted-low m e);
@@ -103,7 +103,7 @@ module _ {mark : ℕ → ℕ} {S e i : ℕ} {a : Next} (w : Ahead mark S e i a) 
     unfolding nextingOf from nextAt halts cell
     ahead-live h = let z : mark i ≡ 1 = omega arith in rw (← w .gives, more, z, lt-ltb i e l, z)
 
-    pub ahead-bad : 2 < m → next.Bad ≡ a
+    pub ahead-bad : 2 < m → next.Damaged ≡ a
     unfolding nextingOf from nextAt halts
     ahead-bad h = let z = cell-bad (mark i) (tt {0}) (tt {0}) (rw p at h) in rw (← w .gives, more, z, lt-ltb i e l, z)
 

@@ -3,7 +3,7 @@ use Prim.Native.Nat.{ℕ}
 use mathlib.Core.Bool.{Bool, true, false}
 use mathlib.Core.Path.{_≡_, sym, _∙_}
 use Rattle.model.specs.Calls.{need, acted, capacity, length, reserve, get, after-make}
-use Rattle.model.specs.Store.{Store, live-count, hurtful}
+use Rattle.model.specs.Store.{Store, live-count, damagedSlots}
 use Rattle.answers.specs.declared.Refusal.the-variants.{Sizes, Damaged}
 use Rattle.answers.specs.declared.Outcome.the-variants as outcome
 use Rattle.answers.specs.declared.Counted.the-variants as counted
@@ -56,10 +56,10 @@ module _ {K W : Type 0} (M : Store K W) (m : M .State) where
     unfolding capacityOf capacity need countSaid countedNumbers
     capacity-sized = rw e
 
-    pub len-live : {n : ℕ} → hurtful M m ≡ false → live-count M m ≡ n → countedNumbers (counted.Count n) ≡ lenOf M m
+    pub len-live : {n : ℕ} → damagedSlots M m ≡ false → live-count M m ≡ n → countedNumbers (counted.Count n) ≡ lenOf M m
     unfolding lenOf length need countSaid countedNumbers
     len-live h l = rw (e, h, l)
 
-    pub len-damaged : hurtful M m ≡ true → countedNumbers (counted.Refused Damaged) ≡ lenOf M m
+    pub len-damaged : damagedSlots M m ≡ true → countedNumbers (counted.Refused Damaged) ≡ lenOf M m
     unfolding lenOf length need countSaid countedNumbers
     len-damaged h = rw (e, h)

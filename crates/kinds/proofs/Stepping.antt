@@ -113,14 +113,14 @@ way-inside S w b {s} {z} p q = by-bool (eqb b 0)
 by-nothing : {e x : ℕ} (n : Next) → aheadBy e n ≡ Nothing x → e ≡ x
 unfolding aheadBy
 by-nothing (next.Live i) q = clash cc
-by-nothing next.Bad q = clash cc
+by-nothing next.Damaged q = clash cc
 by-nothing next.Nothing q = cc
 
 module _ (mark : ℕ → ℕ) (w : ℕ) where
   by-live : {e j : ℕ} (n : Next) → n ≡ nextingOf mark w e → aheadBy e n ≡ Live j → (w ≤ j) × (j < e)
   unfolding aheadBy
   by-live {e} {j} (next.Live i) p q = let t : i ≡ j = cc in let (a, c) = next-inside mark w e p refl in (omega arith, omega arith)
-  by-live next.Bad p q = clash cc
+  by-live next.Damaged p q = clash cc
   by-live next.Nothing p q = clash cc
 
   module _ (S b : ℕ) where

@@ -10,8 +10,8 @@ use Rattle.model.specs.Slots.{Keys}
 use Rattle.model.specs.Path as path
 use Rattle.model.proofs.Cases.{by-bool, by-lt}
 use Rattle.model.proofs.Path.{at-below, probe-find}
-use Rattle.answers.specs.declared.Refusal.the-variants.{Damaged}
-use Rattle.kinds.specs.declared.Sight.the-variants.{Never, Freed, Bad, Same, Other}
+use Rattle.answers.specs.declared.Refusal.the-variants as refusal
+use Rattle.kinds.specs.declared.Sight.the-variants.{Never, Freed, Damaged, Same, Other}
 use Rattle.kinds.specs.declared.Sight.{Sight}
 use Rattle.kinds.specs.declared.Probed.{Probed}
 use Rattle.kinds.specs.declared.Probed.the-variants.{Hit, Refused}
@@ -106,7 +106,7 @@ module _ {K : Type 0} {E : Keys K} {mark : ℕ → ℕ} {key : ℕ → K} {S : �
     on-never e p q = rw (q, p, add-one, ← w .gives, turn E mark key S k slot n free l, ← look, e)
 
     -- a damaged slot
-    pub on-bad : x ≡ Bad → Refused Damaged ≡ a
+    pub on-bad : x ≡ Damaged → Refused refusal.Damaged ≡ a
     unfolding onSight
     on-bad e = rw (← w .gives, turn E mark key S k slot n free l, ← look, e)
 

@@ -4,8 +4,8 @@ use mathlib.Core.Bool.{Bool}
 use Rattle.model.specs.Store.{Store}
 use Rattle.model.specs.Calls.{Handle, on-occupied, on-vacant, get, entry, remove, after-remove, capacity, after-make, length, reserve, copy, after-copy, union, after-union, occupied-get, after-set, occupied-remove, after-drop, vacant-insert, after-fill, or-insert, after-or-insert, insert-entry, after-insert-entry}
 use Rattle.answers.specs.declared.Numbers.{Numbers}
-use Rattle.answers.specs.Said.{doneSaid, countSaid, emptySaid, roomSaid, gotSaid, containedSaid, removedSaid, droppedSaid, enteredSaid, heldSaid, swappedSaid, takenSaid, standingSaid}
-use Rattle.kinds.specs.Told.{Told, told}
+use Rattle.answers.specs.Said.{doneSaid, countSaid, emptySaid, roomSaid, gotSaid, containedSaid, removedSaid, droppedSaid, enteredSaid, heldSaid, swappedSaid, takenSaid, inSlotSaid}
+use Rattle.kinds.specs.Told.{ToldAndLeft, told}
 
 module _ {K W : Type 0} (M : Store K W) where
   -- Whether the lent lists have sizes that a table may have.
@@ -13,7 +13,7 @@ module _ {K W : Type 0} (M : Store K W) where
   sizedOf m = M .sized m
 
   -- make and clear: every mark, word and arena byte becomes 0.
-  unfoldable pub makeOf : M .State → Told (M .State)
+  unfoldable pub makeOf : M .State → ToldAndLeft (M .State)
   makeOf m = told (doneSaid (capacity M m)) (after-make M m)
 
   -- capacity: the number of slots.
@@ -37,15 +37,15 @@ module _ {K W : Type 0} (M : Store K W) where
   containsOf m k = containedSaid (get M m k)
 
   -- copy: every slot and byte becomes that of the other table.
-  unfoldable pub copyOf : M .State → M .State → Told (M .State)
+  unfoldable pub copyOf : M .State → M .State → ToldAndLeft (M .State)
   copyOf to from = told (doneSaid (copy M to from)) (after-copy M to from)
 
   -- A set's remove: the slot is freed.
-  unfoldable pub droppedOf : M .State → K → Told (M .State)
+  unfoldable pub droppedOf : M .State → K → ToldAndLeft (M .State)
   droppedOf m k = told (droppedSaid (remove M m k)) (after-remove M m k)
 
   -- union_prefer_right: the right's pairs go into the left, all or none.
-  unfoldable pub unionOf : M .State → M .State → Told (M .State)
+  unfoldable pub unionOf : M .State → M .State → ToldAndLeft (M .State)
   unionOf l r = told (doneSaid (union M l r)) (after-union M l r)
 
 -- The slot of a handle.
@@ -59,7 +59,7 @@ module _ {K : Type 0} (M : Store K ℕ) where
   getOf m k = gotSaid (get M m k)
 
   -- A map's remove: the slot is freed.
-  unfoldable pub removeOf : M .State → K → Told (M .State)
+  unfoldable pub removeOf : M .State → K → ToldAndLeft (M .State)
   removeOf m k = told (removedSaid (remove M m k)) (after-remove M m k)
 
   -- entry: where the key stands or would go.
@@ -71,21 +71,21 @@ module _ {K : Type 0} (M : Store K ℕ) where
   heldOf m s k = heldSaid s (occupied-get M m s k)
 
   -- Its set: the slot's value changes.
-  unfoldable pub setOf : M .State → ℕ → K → ℕ → Told (M .State)
+  unfoldable pub setOf : M .State → ℕ → K → ℕ → ToldAndLeft (M .State)
   setOf m s k v = told (swappedSaid s (occupied-get M m s k)) (after-set M m s k v)
 
   -- Its remove and remove_entry: the slot is freed.
-  unfoldable pub takenOf : M .State → ℕ → K → Told (M .State)
+  unfoldable pub takenOf : M .State → ℕ → K → ToldAndLeft (M .State)
   takenOf m s k = told (takenSaid (occupied-remove M m s k)) (after-drop M m s k)
 
   -- A vacant handle's insert: its slot takes the key and the value.
-  unfoldable pub standingOf : M .State → ℕ → K → ℕ → Told (M .State)
-  standingOf m s k v = told (standingSaid s (vacant-insert M m s k v)) (after-fill M m s k v)
+  unfoldable pub vacantInsertOf : M .State → ℕ → K → ℕ → ToldAndLeft (M .State)
+  vacantInsertOf m s k v = told (inSlotSaid s (vacant-insert M m s k v)) (after-fill M m s k v)
 
   -- or_insert: a present value stays, else the default goes in.
-  unfoldable pub orInsertOf : M .State → Handle → K → ℕ → Told (M .State)
-  orInsertOf m h k v = told (standingSaid (slotOf h) (or-insert M m h k v)) (after-or-insert M m h k v)
+  unfoldable pub orInsertOf : M .State → Handle → K → ℕ → ToldAndLeft (M .State)
+  orInsertOf m h k v = told (inSlotSaid (slotOf h) (or-insert M m h k v)) (after-or-insert M m h k v)
 
   -- insert_entry: a present value is replaced, else the value goes in.
-  unfoldable pub insertEntryOf : M .State → Handle → K → ℕ → Told (M .State)
-  insertEntryOf m h k v = told (standingSaid (slotOf h) (insert-entry M m h k v)) (after-insert-entry M m h k v)
+  unfoldable pub insertEntryOf : M .State → Handle → K → ℕ → ToldAndLeft (M .State)
+  insertEntryOf m h k v = told (inSlotSaid (slotOf h) (insert-entry M m h k v)) (after-insert-entry M m h k v)

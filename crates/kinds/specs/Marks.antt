@@ -4,14 +4,14 @@ use mathlib.Core.Bool.{cond}
 use mathlib.Core.List.{List}
 use lib.Dec.{eqb}
 use lib.ListN.{getD}
-use Rattle.model.specs.Slots.{Slot, never, freed, bad, live, Table}
+use Rattle.model.specs.Slots.{Slot, never, freed, damaged, live, Table}
 
 -- What a slot with this mark, key and value holds: mark 0 never used, 1 live, 2 freed, any other damaged.
 unfoldable pub cell : {K W : Type 0} → ℕ → K → W → Slot K W
 cell zero k v = never
 cell (suc zero) k v = live k v
 cell (suc (suc zero)) k v = freed
-cell (suc (suc (suc m))) k v = bad
+cell (suc (suc (suc m))) k v = damaged
 
 -- The words of a lent list by their places, 0 beyond them.
 abbrev pub wordsOf : List ℕ → ℕ → ℕ

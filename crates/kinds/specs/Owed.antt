@@ -9,8 +9,8 @@ use Rattle.model.specs.Slots.{live, total}
 use Rattle.model.specs.Path.{freeAt}
 use Rattle.model.specs.Finite.{Finite, contains, mass}
 use Rattle.model.specs.Store.{Store, slotAt, pathLength}
-use Rattle.model.specs.Calls.{Handle, on-occupied, on-vacant, ruined}
-use Rattle.model.specs.Demand2.{grown, grips}
+use Rattle.model.specs.Calls.{Handle, on-occupied, on-vacant, anyDamage}
+use Rattle.model.specs.Demand2.{grown, holdsNow}
 use Rattle.answers.specs.Cases.{PAIR, NOTHING, WALK-DONE, NOW}
 use Rattle.answers.specs.declared.Numbers.{Numbers}
 
@@ -27,8 +27,8 @@ abbrev pub counting : ℕ → ℕ → Numbers
 counting c v = record { refusal = 0; case = c; key = 0; value = v; slot = 0; examined = 0; walk = 0; offset = 0; length = 0 }
 
 -- A case of a lookup with a value, a slot and the examined number: 6 found, 9 fresh, 10 replaced, 11 removed, 12 occupied, 13 vacant; with the examined number alone: 7 present, 8 absent.
-abbrev pub standing : ℕ → ℕ → ℕ → ℕ → Numbers
-standing c v s e = record { refusal = 0; case = c; key = 0; value = v; slot = s; examined = e; walk = 0; offset = 0; length = 0 }
+abbrev pub lookingUp : ℕ → ℕ → ℕ → ℕ → Numbers
+lookingUp c v s e = record { refusal = 0; case = c; key = 0; value = v; slot = s; examined = e; walk = 0; offset = 0; length = 0 }
 
 -- A case of a handle with a key, a value and its slot: 17 value, 18 was, 19 now, 11 removed.
 abbrev pub handling : ℕ → ℕ → ℕ → ℕ → Numbers
@@ -83,8 +83,8 @@ module _ {K W : Type 0} (M : Store K W) (m : M .State) where
     placing k present fresh = unless (M .kept k) (admitting (grown M f k) (byMap (f .look k) (λ v. present v (lastSlot k) (pathLength M m k)) (fresh (openSlot k) (pathLength M m k))))
 
     -- An occupied handle: the key's value where its slot is live and holds the key, else 6.
-    unfoldable pub gripping : ℕ → K → (W → Numbers) → Numbers
-    gripping s k n = unless (M .asked k) (cond (grips M m s k) (byMap (f .look k) n (refusing 6 0)) (refusing 6 0))
+    unfoldable pub holding : ℕ → K → (W → Numbers) → Numbers
+    holding s k n = unless (M .asked k) (cond (holdsNow M m s k) (byMap (f .look k) n (refusing 6 0)) (refusing 6 0))
 
     -- A vacant handle is good exactly when the key is absent and insert would use that slot without refusing.
     unfoldable pub vacates : ℕ → K → Bool
@@ -101,26 +101,26 @@ module _ {K W : Type 0} (M : Store K W) (m : M .State) where
     -- union with a right table of any memory: 1 for the right's sizes, 5 for its damage, then 7 and 8 where the slots or the bytes that are left do not suffice for what the map lacks.
     unfoldable pub joining : M .State → Numbers → Numbers
     joining r n =
-        cond (M .sized r) (cond (ruined M r) (refusing 5 0)
+        cond (M .sized r) (cond (anyDamage M r) (refusing 5 0)
         (cond (leb (lacked (λ k. 1) r) (M .size m - mass (λ k. 1) (f .dom)))
         (cond (leb (lacked (M .weight) r) (M .bytes m - mass (M .weight) (f .dom))) n (refusing 8 0)) (refusing 7 0)))
         (refusing 1 0)
 
     -- A step at a with budget b: refused for no budget, or beyond S; done at S; the pair of the first live slot, by `hand` from key, value and slot with the walk moved past it and the slots examined; or nothing, after b slots or at S.
-    pub data Paces (hand : K → W → ℕ → ℕ → ℕ → Numbers) (a b : ℕ) (n : Numbers) : Type 0 where
-      no-budget : b ≡ 0 → n ≡ refusing 3 a → Paces hand a b n
-      beyond : 0 < b → M .size m < a → n ≡ refusing 4 a → Paces hand a b n
-      ended : 0 < b → a ≡ M .size m → n ≡ moving WALK-DONE a 0 → Paces hand a b n
-      hands : (j : ℕ) (k : K) (v : W) → a ≤ j → j < M .size m → j < a + b → M .slots m j ≡ live k v → f .look k ≡ some v → ((i : ℕ) (c : K) (u : W) → a ≤ i → i < j → M .slots m i ≡ live c u → ⊥) → n ≡ hand k v j (suc j) (suc j - a) → Paces hand a b n
-      passes : (x : ℕ) → a < x → x ≡ min (a + b) (M .size m) → ((i : ℕ) (c : K) (u : W) → a ≤ i → i < x → M .slots m i ≡ live c u → ⊥) → n ≡ moving NOTHING x (x - a) → Paces hand a b n
+    pub data OwesStep (hand : K → W → ℕ → ℕ → ℕ → Numbers) (a b : ℕ) (n : Numbers) : Type 0 where
+      no-budget : b ≡ 0 → n ≡ refusing 3 a → OwesStep hand a b n
+      beyond : 0 < b → M .size m < a → n ≡ refusing 4 a → OwesStep hand a b n
+      ended : 0 < b → a ≡ M .size m → n ≡ moving WALK-DONE a 0 → OwesStep hand a b n
+      hands : (j : ℕ) (k : K) (v : W) → a ≤ j → j < M .size m → j < a + b → M .slots m j ≡ live k v → f .look k ≡ some v → ((i : ℕ) (c : K) (u : W) → a ≤ i → i < j → M .slots m i ≡ live c u → ⊥) → n ≡ hand k v j (suc j) (suc j - a) → OwesStep hand a b n
+      passes : (x : ℕ) → a < x → x ≡ min (a + b) (M .size m) → ((i : ℕ) (c : K) (u : W) → a ≤ i → i < x → M .slots m i ≡ live c u → ⊥) → n ≡ moving NOTHING x (x - a) → OwesStep hand a b n
 
 module _ {K : Type 0} (M : Store K ℕ) (m : M .State) (f : Finite K ℕ) where
   -- or_insert keeps a present value, and answers the value that is now in the slot.
   unfoldable pub keeping : Handle → K → ℕ → Numbers
-  keeping (on-occupied i) k v = gripping M m f i k (λ u. handling NOW 0 u i)
+  keeping (on-occupied i) k v = holding M m f i k (λ u. handling NOW 0 u i)
   keeping (on-vacant i) k v = opening M m f i k (handling NOW 0 v i)
 
   -- insert_entry replaces it.
   unfoldable pub replacing : Handle → K → ℕ → Numbers
-  replacing (on-occupied i) k v = gripping M m f i k (λ u. handling NOW 0 v i)
+  replacing (on-occupied i) k v = holding M m f i k (λ u. handling NOW 0 v i)
   replacing (on-vacant i) k v = opening M m f i k (handling NOW 0 v i)

@@ -2,11 +2,11 @@
 use Prim.Native.Nat.{ℕ, zero, suc, _+_}
 use mathlib.Core.Bool.{cond}
 use lib.Dec.{ltb}
-use Rattle.model.specs.Slots.{Slot, never, freed, bad, live, Keys}
-use Rattle.model.specs.Path.{Find, hit, miss, hurt, at}
-use Rattle.answers.specs.declared.Refusal.the-variants.{Damaged}
+use Rattle.model.specs.Slots.{Slot, never, freed, damaged, live, Keys}
+use Rattle.model.specs.Path.{Find, hit, miss, damage, at}
+use Rattle.answers.specs.declared.Refusal.the-variants as refusal
 use Rattle.kinds.specs.declared.Sight.{Sight}
-use Rattle.kinds.specs.declared.Sight.the-variants.{Never, Freed, Bad, Same, Other}
+use Rattle.kinds.specs.declared.Sight.the-variants.{Never, Freed, Damaged, Same, Other}
 use Rattle.kinds.specs.declared.Probed.{Probed}
 use Rattle.kinds.specs.declared.Probed.the-variants.{Hit, Free, Full, Refused}
 use Rattle.kinds.specs.Marks.{cell}
@@ -15,7 +15,7 @@ use Rattle.kinds.specs.Marks.{cell}
 unfoldable pub lookAt : {K W : Type 0} → Keys K → K → Slot K W → Sight
 lookAt E k never = Never
 lookAt E k freed = Freed
-lookAt E k bad = Bad
+lookAt E k damaged = Damaged
 lookAt E k (live a v) = cond (E .same k a) Same Other
 
 -- The same of a slot with this mark and key.
@@ -38,13 +38,13 @@ ended S free e = cond (ltb free S) (Free free e) (Full e)
 unfoldable pub along : {W : Type 0} → ℕ → ℕ → Find W → Probed
 along S h (hit n v) = Hit (at S h n) (suc n)
 along S h (miss e f) = cond (ltb f S) (Free (at S h f) e) (Full e)
-along S h hurt = Refused Damaged
+along S h damage = Refused refusal.Damaged
 
 -- One slot of the loop, by the look at it: an answer, or the rest with the first free slot so far.
 unfoldable pub onSight : ℕ → ℕ → ℕ → ℕ → Sight → (ℕ → Probed) → Probed
 onSight S slot n free Never rest = ended S (firstFree S free slot) (suc n)
 onSight S slot n free Freed rest = rest (firstFree S free slot)
-onSight S slot n free Bad rest = Refused Damaged
+onSight S slot n free Damaged rest = Refused refusal.Damaged
 onSight S slot n free Same rest = Hit slot (suc n)
 onSight S slot n free Other rest = rest free
 

@@ -8,7 +8,7 @@ use lib.Dec.{eqb}
 use Rattle.model.specs.Store.{Store, pathLength}
 use Rattle.model.specs.Finite.{Finite}
 use Rattle.model.specs.Calls.{Or, no, ok}
-use Rattle.model.specs.Walk.{Paced, pair, nothing, done}
+use Rattle.model.specs.Walk.{StepAnswer, pair, nothing, done}
 use Rattle.model.specs.Machine as model
 use Rattle.model.specs.Machine.{World, answer, left, placed, stepping}
 use Rattle.model.specs.Lawful.{Shows}
@@ -18,25 +18,25 @@ use Rattle.model.specs.Demand3.{Machine}
 use Rattle.model.specs.Tables.{sweeps}
 use Rattle.answers.specs.Cases.{PAIR, NOTHING}
 use Rattle.answers.specs.declared.Numbers.{Numbers}
-use Rattle.kinds.specs.Told.{Told, told}
+use Rattle.kinds.specs.Told.{ToldAndLeft, told}
 use Rattle.kinds.specs.Owed.{refusing}
 
 -- A kind's published calls.
 pub record Published {K W : Type 0} (M : Store K W) : Type 1 where
   pub Call : Type 0
   -- what a call on a table, by its number, tells, and what it leaves of that table
-  pub told-by : World M → ℕ → Call → Told (M .State)
+  pub told-by : World M → ℕ → Call → ToldAndLeft (M .State)
   -- the call of the theory that it is
   pub meant : World M → ℕ → Call → model.Call K W
   -- the step of a walk at a slot, with a budget
   pub step : ℕ → ℕ → Call
   -- the step of a lent walk: what it tells, and the walk that it leaves in its place
-  pub lent-by : World M → ℕ → ℕ → ℕ → Told ℕ
+  pub lent-by : World M → ℕ → ℕ → ℕ → ToldAndLeft ℕ
   -- what a caller makes of a step's numbers, with the lent memory before its eyes
-  pub heard : M .State → Numbers → Or (Paced K W)
+  pub heard : M .State → Numbers → Or (StepAnswer K W)
 
 -- What the numbers of a step say: a refusal, a pair (case 14) by how its key and value are read, nothing (15) or done, with the walk moved on and the examined number.
-unfoldable pub heardAs : {K W : Type 0} → (Numbers → K) → (Numbers → W) → Numbers → Or (Paced K W)
+unfoldable pub heardAs : {K W : Type 0} → (Numbers → K) → (Numbers → W) → Numbers → Or (StepAnswer K W)
 heardAs key value n =
     cond (eqb (n .refusal) 0)
     (cond (eqb (n .case) PAIR) (ok (pair (key n) (value n) (n .walk) (n .examined)))
@@ -66,7 +66,7 @@ budgetOf (by-value b) = b
 budgetOf (lent b) = b
 
 -- A lent step's numbers, with the walk that stands in the lent place after it.
-unfoldable pub leftWalk : Told ℕ → Numbers
+unfoldable pub leftWalk : ToldAndLeft ℕ → Numbers
 leftWalk t = record {
   refusal = t .numbers .refusal;
   case = t .numbers .case;
@@ -127,7 +127,7 @@ module _ {K W : Type 0} (M : Store K W) (P : Published M) where
 
   -- What a kind's calls owe: of a call on a table, by its number, whose map is f, what it tells and leaves.
   abbrev pub Duty : Type 1
-  Duty = Book M → ℕ → Finite K W → P .Call → Told (M .State) → Type 0
+  Duty = Book M → ℕ → Finite K W → P .Call → ToldAndLeft (M .State) → Type 0
 
   -- Demand 2, at each call of a list: what is known of the tables is so; where the map of the call's table is known, the call tells what it owes; and so on after it.
   pub data ToldInStep (D : Duty) : List (ℕ × P .Call) → Book M → Type 0 where

@@ -3,7 +3,7 @@ use Prim.Native.Nat.{ℕ, suc, _+_, _-_}
 use mathlib.Core.Bool.{Bool, cond}
 use lib.Dec.{leb, eqb}
 use Rattle.model.specs.Calls.{Or, no, ok}
-use Rattle.model.specs.Walk.{Paced, pair, nothing, done, reachOf}
+use Rattle.model.specs.Walk.{StepAnswer, pair, nothing, done, reachOf}
 use Rattle.answers.specs.Refusals.{numberOf}
 use Rattle.answers.specs.declared.Refusal.the-variants as refusal
 use Rattle.kinds.specs.declared.Next.{Next}
@@ -23,7 +23,7 @@ wayOf S w b =
 -- What a step that looks up to e comes upon, by what stands first.
 unfoldable pub aheadBy : ℕ → Next → Ahead
 aheadBy e (next.Live j) = Live j
-aheadBy e next.Bad = Refused refusal.Damaged
+aheadBy e next.Damaged = Refused refusal.Damaged
 aheadBy e next.Nothing = Nothing e
 
 -- What a step from w comes upon in its stretch.
@@ -37,7 +37,7 @@ unfoldable pub aheadOf : Bool → (ℕ → ℕ) → ℕ → ℕ → ℕ → Ahea
 aheadOf sized mark S w b = cond sized (aheadOn mark w (wayOf S w b)) (Refused refusal.Sizes)
 
 -- What a step from w answers that came upon this; `key` and `read` give the key and the value at a slot.
-unfoldable pub steppedBy : {K W : Type 0} → (ℕ → K) → (ℕ → W) → ℕ → Ahead → Or (Paced K W)
+unfoldable pub steppedBy : {K W : Type 0} → (ℕ → K) → (ℕ → W) → ℕ → Ahead → Or (StepAnswer K W)
 steppedBy key read w (Live j) = ok (pair (key j) (read j) (suc j) (suc j - w))
 steppedBy key read w (Nothing x) = ok (nothing x (x - w))
 steppedBy key read w Done = ok (done w)

@@ -11,7 +11,7 @@ use answers::Refusal;
 pub enum Sight {
     Never,
     Freed,
-    Bad,
+    Damaged,
     Same,
     Other,
 }
@@ -27,13 +27,13 @@ pub enum Probed {
 // What a scan of all slots found: the number of live slots, or damage.
 pub enum Scanned {
     Live(usize),
-    Bad,
+    Damaged,
 }
 
 // What stands first in a stretch of slots: a live slot, damage, or neither.
 pub enum Next {
     Live(usize),
-    Bad,
+    Damaged,
     Nothing,
 }
 
@@ -126,7 +126,7 @@ pub fn ahead_by(next: Next, end: usize) -> Ahead
 {
     match next {
         Next::Live(slot) => Ahead::Live(slot),
-        Next::Bad => Ahead::Refused(Refusal::Damaged),
+        Next::Damaged => Ahead::Refused(Refusal::Damaged),
         Next::Nothing => Ahead::Nothing(end),
     }
 }

@@ -3,9 +3,9 @@ use Prim.Native.Nat.{ℕ, zero, suc, _<_}
 use mathlib.Core.Bool.{true, false, cond}
 use mathlib.Core.Path.{_≡_, refl, sym, _∙_, ap, ap₂}
 use mathlib.Core.Option.{none, some}
-use Rattle.model.specs.Slots.{Slot, never, freed, bad, live, Table, Keys, put, frees, holds, valueIn, look}
+use Rattle.model.specs.Slots.{Slot, never, freed, damaged, live, Table, Keys, put, frees, holds, valueIn, look}
 use Rattle.model.specs.Path.{at, freeAt}
-use Rattle.model.specs.Sound.{Sound}
+use Rattle.model.specs.Sound.{SoundSlots}
 use Rattle.model.proofs.Cases.{by-same, clash}
 use Rattle.model.proofs.Slots.{put-same, by-put, lacks, value-lacks, look-none}
 use Rattle.model.proofs.Path.{at-below, free-here}
@@ -24,7 +24,7 @@ module _ {K W : Type 0} (E : Keys K) where
   unfolding frees holds
   frees-lacks a never e = refl
   frees-lacks a freed e = refl
-  frees-lacks a bad e = refl
+  frees-lacks a damaged e = refl
   frees-lacks a (live x v) e = clash cc
 
   -- a slot live with k lacks every other key
@@ -41,7 +41,7 @@ module _ {K W : Type 0} (E : Keys K) where
       (λ x r. rw r (lacks E k (t j) (λ y c. x (once j i k y w b l c e)))))))
       (λ p. rw p (look-other a t i freed S refl (live-lacks k a (t i) w e p)))
 
-  module _ (S : ℕ) (home : K → ℕ) (homes : (k : K) → home k < S) (t : Table K W) (o : Sound S home t) (k : K) where
+  module _ (S : ℕ) (home : K → ℕ) (homes : (k : K) → home k < S) (t : Table K W) (o : SoundSlots S home t) (k : K) where
     pub fresh-look : (v : W) → look E t S k ≡ none → freeAt S (home k) t < S → (a : K) → look E (put t (at S (home k) (freeAt S (home k) t)) (live k v)) S a ≡ cond (E .same a k) (some v) (look E t S a)
     fresh-look v e l a =
         let i : ℕ = at S (home k) (freeAt S (home k) t) in

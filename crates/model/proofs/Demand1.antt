@@ -9,13 +9,13 @@ use mathlib.Core.Path.{_≡_, refl, sym, _∙_, ap, subst}
 use native.Mathlib.Omega.{arith}
 use borrow.Author.Tests.{lt-ltb, ne-eqb, leb-true, leb-false, eqb-true, eqb-false, not-true, not-false}
 use lib.Dec.{ltb, leb, eqb}
-use Rattle.model.specs.Slots.{Slot, never, freed, bad, live, Table}
-use Rattle.model.specs.Path.{from, Find, hit, miss, hurt, at, stops, stopAt, freeAt, find, examined}
-use Rattle.model.specs.Store.{Store, path, slotAt, pathLength, live-count, used, hurtful}
-use Rattle.model.specs.Calls.{Or, no, ok, need, pass, give, Spot, occupied, vacant, on-occupied, on-vacant, seenBy, spotBy, get, entry, remove, capacity, length, reserve, copy, needs, ruined, union, gripOn, grip, occupied-get, occupied-remove, goodFor, vacancy, vacant-insert, or-insert, insert-entry}
-use Rattle.model.specs.Walk.{halts, halted, reachOf, paceTo, pace, step}
-use Rattle.model.specs.Machine.{Own, makes, clears, capacities, lens, empties, reserves, gets, contains-keys, removes, entries, inserts, occupied-gets, occupied-removes, occupied-sets, vacant-inserts, or-inserts, insert-entries, Call, own, copies, unions, steps, Answer, fine, number, truth, seen, spot, value, paced, report, World, tells, stepping, answer}
-use Rattle.model.specs.Demand1.{Row, row, First, none-applies, applies-here, goes-on, refusal, numberIn, BadOnPath, Absent, BadSomewhere, sized-rows, count-rows, reserve-rows, look-rows, remove-rows, place-rows, grip-rows, drop-rows, open-rows, step-rows, copy-rows, union-rows, rows}
+use Rattle.model.specs.Slots.{Slot, never, freed, damaged, live, Table}
+use Rattle.model.specs.Path.{from, Find, hit, miss, damage, at, stops, stopAt, freeAt, find, examined}
+use Rattle.model.specs.Store.{Store, path, slotAt, pathLength, live-count, used, damagedSlots}
+use Rattle.model.specs.Calls.{Or, no, ok, need, pass, give, Spot, occupied, vacant, on-occupied, on-vacant, seenBy, spotBy, get, entry, remove, capacity, length, reserve, copy, needs, anyDamage, union, heldOn, heldAt, occupied-get, occupied-remove, goodFor, vacancy, vacant-insert, or-insert, insert-entry}
+use Rattle.model.specs.Walk.{halts, halted, reachOf, stepWithin, pace, step}
+use Rattle.model.specs.Machine.{Own, makes, clears, capacities, lens, empties, reserves, gets, contains-keys, removes, entries, inserts, occupied-gets, occupied-removes, occupied-sets, vacant-inserts, or-inserts, insert-entries, Call, own, copies, unions, steps, Answer, fine, number, truth, seen, spot, value, stepped, report, World, tells, stepping, answer}
+use Rattle.model.specs.Demand1.{Row, row, First, none-applies, applies-here, goes-on, refusal, numberIn, DamagedOnPath, Absent, DamagedSomewhere, sized-rows, count-rows, reserve-rows, look-rows, remove-rows, place-rows, grip-rows, drop-rows, open-rows, step-rows, copy-rows, union-rows, rows}
 use Rattle.model.proofs.Cases.{by-bool, by-lt, by-eq, by-same, clash}
 use Rattle.model.proofs.Slots.{damaged-where, damaged-bad}
 use Rattle.model.proofs.Path.{from-low, from-before, from-here, Ended, find-ended, ended-hit, ended-never, ended-round, ended-bad, examined-stop, miss-free}
@@ -61,15 +61,15 @@ apart a b p q clash = clash (sym p ∙ q)
 
 -- a stopped path: what stands in an examined slot
 module _ {K W : Type 0} (M : Store K W) (m : M .State) (k : K) where
-  pub data Told : Type 0 where
-    told-hit : (n : ℕ) (v : W) → path M m k ≡ hit n v → (BadOnPath M m k → ⊥) → (Absent M m k → ⊥) → Told
-    told-miss : (e f : ℕ) → path M m k ≡ miss e f → (BadOnPath M m k → ⊥) → Absent M m k → Told
-    told-hurt : path M m k ≡ hurt → BadOnPath M m k → Absent M m k → Told
+  pub data PathSays : Type 0 where
+    told-hit : (n : ℕ) (v : W) → path M m k ≡ hit n v → (DamagedOnPath M m k → ⊥) → (Absent M m k → ⊥) → PathSays
+    told-miss : (e f : ℕ) → path M m k ≡ miss e f → (DamagedOnPath M m k → ⊥) → Absent M m k → PathSays
+    told-hurt : path M m k ≡ damage → DamagedOnPath M m k → Absent M m k → PathSays
 
   abbrev last : ℕ
   last = stopAt (M .keys) (M .size m) (M .home m k) (M .slots m) k
 
-  bad-last : BadOnPath M m k → (M .slots m (at (M .size m) (M .home m k) last) ≡ bad) × (last < M .size m)
+  bad-last : DamagedOnPath M m k → (M .slots m (at (M .size m) (M .home m k) last) ≡ damaged) × (last < M .size m)
   unfolding pathLength slotAt stops
   bad-last b =
       let (x, l) = examined-stop (M .keys) (M .size m) (M .home m k) (M .slots m) k (b .0) (b .1) (rw (b .2)) in
@@ -85,14 +85,14 @@ module _ {K W : Type 0} (M : Store K W) (m : M .State) (k : K) where
   unfolding pathLength examined
   last-examined l = rw (lt-ltb last (M .size m) l) (omega arith)
 
-  pub told : Told
+  pub told : PathSays
   unfolding path slotAt
   told = go (find (M .keys) (M .size m) (M .home m k) (M .slots m) k) refl (find-ended (M .keys) (M .size m) (M .home m k) (M .slots m) k)
     where
       ends-with : {s : Slot K W} {n : ℕ} → n ≡ last → M .slots m (at (M .size m) (M .home m k) n) ≡ s → M .slots m (at (M .size m) (M .home m k) last) ≡ s
       ends-with {s} x p = subst (λ j. M .slots m (at (M .size m) (M .home m k) j) ≡ s) x p
 
-      go : (r : Find W) → find (M .keys) (M .size m) (M .home m k) (M .slots m) k ≡ r → Ended (M .keys) (M .size m) (M .home m k) (M .slots m) k r → Told
+      go : (r : Find W) → find (M .keys) (M .size m) (M .home m k) (M .slots m) k ≡ r → Ended (M .keys) (M .size m) (M .home m k) (M .slots m) k r → PathSays
       go r q (ended-hit n v x l p) = told-hit n v q
           (λ b. let c = bad-last b .0 in let d = ends-with x p in clash cc)
           (λ a. a n v (rw x (last-examined (omega arith))) p)
@@ -106,20 +106,20 @@ module _ {K W : Type 0} (M : Store K W) (m : M .State) (k : K) where
           (λ j v c e. let f = live-last j v c e .0 in let d = ends-with x p in clash cc)
 
 module _ {K W : Type 0} (M : Store K W) where
-  hurt-somewhere : (m : M .State) → hurtful M m ≡ true → BadSomewhere M m
-  unfolding hurtful
+  hurt-somewhere : (m : M .State) → damagedSlots M m ≡ true → DamagedSomewhere M m
+  unfolding damagedSlots
   hurt-somewhere m e = damaged-where (M .slots m) (M .size m) e
 
-  somewhere-hurt : (m : M .State) → BadSomewhere M m → hurtful M m ≡ false → ⊥
-  unfolding hurtful
+  somewhere-hurt : (m : M .State) → DamagedSomewhere M m → damagedSlots M m ≡ false → ⊥
+  unfolding damagedSlots
   somewhere-hurt m b e = let c : _≡_ {A = Bool} true false = sym (damaged-bad (M .slots m) (M .size m) (b .0) (b .1) (b .2)) ∙ e in clash cc
 
 -- a step: 5 exactly when a slot that it passes is damaged
 module _ {K W : Type 0} (S : ℕ) (t : Table K W) (a b : ℕ) where
   abbrev Passed : Type 0
-  Passed = (j : ℕ) × (a ≤ j) × (j < S) × (j < a + b) × (t j ≡ bad) × ((i : ℕ) (k : K) (v : W) → a ≤ i → i < j → t i ≡ live k v → ⊥)
+  Passed = (j : ℕ) × (a ≤ j) × (j < S) × (j < a + b) × (t j ≡ damaged) × ((i : ℕ) (k : K) (v : W) → a ≤ i → i < j → t i ≡ live k v → ⊥)
 
-  halts-bad : (j : ℕ) → t j ≡ bad → halts (t j) ≡ true
+  halts-bad : (j : ℕ) → t j ≡ damaged → halts (t j) ≡ true
   unfolding halts
   halts-bad j e = rw e
 
@@ -136,13 +136,13 @@ module _ {K W : Type 0} (S : ℕ) (t : Table K W) (a b : ℕ) where
   unfolding halted numberIn halts
   first-halted j never e h lo hi before q = clash cc
   first-halted j freed e h lo hi before q = clash cc
-  first-halted j bad e h lo hi before q = here (j, lo, omega (arith, reach-high S a b), omega (arith, reach-budget S a b), e, λ i k v x y p. not-between t i k v p (before i x y))
+  first-halted j damaged e h lo hi before q = here (j, lo, omega (arith, reach-high S a b), omega (arith, reach-budget S a b), e, λ i k v x y p. not-between t i k v p (before i x y))
   first-halted j (live k v) e h lo hi before q = on (λ d. by-lt j (d .0)
       (λ l x. d .5 j k v lo l e)
-      (λ l x. let r : j ≡ d .0 = omega (arith, q d) in apart (live k v) bad e (ap t r ∙ d .4) λ c. clash cc)) none-applies
+      (λ l x. let r : j ≡ d .0 = omega (arith, q d) in apart (live k v) damaged e (ap t r ∙ d .4) λ c. clash cc)) none-applies
 
   first-pace : First (row 5 Passed ∷ []) (numberIn (pace S t a b))
-  unfolding pace paceTo numberIn
+  unfolding pace stepWithin numberIn
   first-pace = by-eq a S
       (λ q x. rw x (on (λ d. omega (arith, d .1, d .2)) none-applies))
       (λ q x. rw x (by-lt (from (λ i. halts (t i)) (reachOf S a b) a) (a + reachOf S a b)
@@ -161,20 +161,20 @@ module _ {K W : Type 0} (S : ℕ) (t : Table K W) (a b : ℕ) where
       (λ f. first-pace))
 
 module _ {K W : Type 0} (M : Store K W) (homes : (m : M .State) (k : K) → M .sized m ≡ true → M .home m k < M .size m) (m : M .State) where
-  first-seen : (k : K) → First (row 5 (BadOnPath M m k) ∷ []) (numberIn (seenBy M m k (path M m k)))
+  first-seen : (k : K) → First (row 5 (DamagedOnPath M m k) ∷ []) (numberIn (seenBy M m k (path M m k)))
   unfolding seenBy numberIn
   first-seen k = go (told M m k)
     where
-      go : Told M m k → First (row 5 (BadOnPath M m k) ∷ []) (numberIn (seenBy M m k (path M m k)))
+      go : PathSays M m k → First (row 5 (DamagedOnPath M m k) ∷ []) (numberIn (seenBy M m k (path M m k)))
       go (told-hit n v p b a) = rw p (on b none-applies)
       go (told-miss e f p b a) = rw p (on b none-applies)
       go (told-hurt p b a) = rw p (here b)
 
-  first-spot : (k : K) → M .sized m ≡ true → First (row 5 (BadOnPath M m k) ∷ row 7 (Absent M m k × (live-count M m ≡ M .size m)) ∷ row 8 (Absent M m k × (M .bytes m - used M m < M .weight k)) ∷ []) (numberIn (spotBy M m k (path M m k)))
+  first-spot : (k : K) → M .sized m ≡ true → First (row 5 (DamagedOnPath M m k) ∷ row 7 (Absent M m k × (live-count M m ≡ M .size m)) ∷ row 8 (Absent M m k × (M .bytes m - used M m < M .weight k)) ∷ []) (numberIn (spotBy M m k (path M m k)))
   unfolding spotBy numberIn need path live-count
   first-spot k z = go (told M m k)
     where
-      go : Told M m k → First (row 5 (BadOnPath M m k) ∷ row 7 (Absent M m k × (live-count M m ≡ M .size m)) ∷ row 8 (Absent M m k × (M .bytes m - used M m < M .weight k)) ∷ []) (numberIn (spotBy M m k (path M m k)))
+      go : PathSays M m k → First (row 5 (DamagedOnPath M m k) ∷ row 7 (Absent M m k × (live-count M m ≡ M .size m)) ∷ row 8 (Absent M m k × (M .bytes m - used M m < M .weight k)) ∷ []) (numberIn (spotBy M m k (path M m k)))
       go (told-hit n v p b a) = rw p (on b (on (λ x. a (x .0)) (on (λ x. a (x .0)) none-applies)))
       go (told-miss e f p b a) = rw p (on b
           (by-lt f (M .size m)
@@ -185,17 +185,17 @@ module _ {K W : Type 0} (M : Store K W) (homes : (m : M .State) (k : K) → M .s
           (λ l x. rw x (here (a, no-free-full (M .keys) (M .size m) (M .home m k) (homes m k z) (M .slots m) k e f p l)))))
       go (told-hurt p b a) = rw p (here b)
 
-  first-grip : (s : ℕ) (k : K) → First (row 5 ((s < M .size m) × (M .slots m s ≡ bad)) ∷ row 6 ((v : W) → s < M .size m → M .slots m s ≡ live k v → ⊥) ∷ []) (numberIn (grip M m s k))
-  unfolding grip gripOn numberIn need
+  first-grip : (s : ℕ) (k : K) → First (row 5 ((s < M .size m) × (M .slots m s ≡ damaged)) ∷ row 6 ((v : W) → s < M .size m → M .slots m s ≡ live k v → ⊥) ∷ []) (numberIn (heldAt M m s k))
+  unfolding heldAt heldOn numberIn need
   first-grip s k = by-lt s (M .size m)
       (λ l x. rw x (go (M .slots m s) refl l))
       (λ l x. rw x (on (λ y. omega (arith, y .0)) (here (λ v c e. omega arith))))
     where
-      go : (c : Slot K W) → M .slots m s ≡ c → s < M .size m → First (row 5 ((s < M .size m) × (M .slots m s ≡ bad)) ∷ row 6 ((v : W) → s < M .size m → M .slots m s ≡ live k v → ⊥) ∷ []) (numberIn (gripOn M k c))
-      go never e l = on (λ y. apart never bad e (y .1) λ q. clash cc) (here (λ v c q. apart never (live k v) e q λ q. clash cc))
-      go freed e l = on (λ y. apart freed bad e (y .1) λ q. clash cc) (here (λ v c q. apart freed (live k v) e q λ q. clash cc))
-      go bad e l = here (l, e)
-      go (live a w) e l = on (λ y. apart (live a w) bad e (y .1) λ q. clash cc)
+      go : (c : Slot K W) → M .slots m s ≡ c → s < M .size m → First (row 5 ((s < M .size m) × (M .slots m s ≡ damaged)) ∷ row 6 ((v : W) → s < M .size m → M .slots m s ≡ live k v → ⊥) ∷ []) (numberIn (heldOn M k c))
+      go never e l = on (λ y. apart never damaged e (y .1) λ q. clash cc) (here (λ v c q. apart never (live k v) e q λ q. clash cc))
+      go freed e l = on (λ y. apart freed damaged e (y .1) λ q. clash cc) (here (λ v c q. apart freed (live k v) e q λ q. clash cc))
+      go damaged e l = here (l, e)
+      go (live a w) e l = on (λ y. apart (live a w) damaged e (y .1) λ q. clash cc)
           (by-same (M .keys) k a
           (λ q x. rw x (on (λ h. h w l (e ∙ ap (λ y. live y w) (sym q))) none-applies))
           (λ x. rw x (here (λ v c q.
@@ -214,9 +214,9 @@ module _ {K W : Type 0} (M : Store K W) (homes : (m : M .State) (k : K) → M .s
 
   -- a vacant handle: 6 unless insert would use its slot
   abbrev vacant-rows : ℕ → K → List Row
-  vacant-rows s k = row 5 (BadOnPath M m k) ∷ row 6 ((e : ℕ) → entry M m k ≡ ok (vacant s e) → ⊥) ∷ []
+  vacant-rows s k = row 5 (DamagedOnPath M m k) ∷ row 6 ((e : ℕ) → entry M m k ≡ ok (vacant s e) → ⊥) ∷ []
 
-  first-good : (s : ℕ) (k : K) → (BadOnPath M m k → ⊥) → (r : Or (Spot W)) → entry M m k ≡ r → (r ≡ no 5 → ⊥) → First (vacant-rows s k) (numberIn (goodFor M s r))
+  first-good : (s : ℕ) (k : K) → (DamagedOnPath M m k → ⊥) → (r : Or (Spot W)) → entry M m k ≡ r → (r ≡ no 5 → ⊥) → First (vacant-rows s k) (numberIn (goodFor M s r))
   unfolding goodFor numberIn need
   first-good s k b (no n) q h = rw (ne-eqb n 5 (λ c. h (ap (λ i. no i) c))) (on b (here (λ e p. apart (no n) (ok (vacant s e)) q p λ c. clash cc)))
   first-good s k b (ok (occupied x w y)) q h = on b (here (λ e p. apart (ok (occupied x w y)) (ok (vacant s e)) q p λ c. clash cc))
@@ -228,20 +228,20 @@ module _ {K W : Type 0} (M : Store K W) (homes : (m : M .State) (k : K) → M .s
   unfolding spotBy need goodFor numberIn
   first-open s k q = go (told M m k)
     where
-      go : Told M m k → First (vacant-rows s k) (numberIn (goodFor M s (spotBy M m k (path M m k))))
+      go : PathSays M m k → First (vacant-rows s k) (numberIn (goodFor M s (spotBy M m k (path M m k))))
       go (told-hit n v p b a) = first-good s k b (spotBy M m k (path M m k)) q (λ h. let c : ok (occupied (slotAt M m k n) v (suc n)) ≡ no 5 = rw p at h in clash cc)
       go (told-miss e f p b a) = first-good s k b (spotBy M m k (path M m k)) q (λ h. not-five f e k (rw p at h))
       go (told-hurt p b a) = rw p (here b)
 
   -- length, emptiness and reserve: some slot is damaged
-  first-whole : {A : Type 0} (a : Or A) (rs : List Row) → First rs (numberIn a) → First (row 5 (BadSomewhere M m) ∷ rs) (numberIn (need (not (hurtful M m)) 5 a))
-  first-whole a rs f = first-need (not (hurtful M m)) 5 a (BadSomewhere M m) rs
-      (λ e. hurt-somewhere M m (not-false (hurtful M m) e))
-      (λ e b. somewhere-hurt M m b (not-true (hurtful M m) e))
+  first-whole : {A : Type 0} (a : Or A) (rs : List Row) → First rs (numberIn a) → First (row 5 (DamagedSomewhere M m) ∷ rs) (numberIn (need (not (damagedSlots M m)) 5 a))
+  first-whole a rs f = first-need (not (damagedSlots M m)) 5 a (DamagedSomewhere M m) rs
+      (λ e. hurt-somewhere M m (not-false (damagedSlots M m) e))
+      (λ e b. somewhere-hurt M m b (not-true (damagedSlots M m) e))
       (λ e. f)
 
 -- where the tests before the path pass, entry is what the path says
-pub entry-clear : {K W : Type 0} (M : Store K W) (m : M .State) (k : K) → M .sized m ≡ true → M .kept k ≡ 0 → M .harmed m ≡ false → entry M m k ≡ spotBy M m k (path M m k)
+pub entry-clear : {K W : Type 0} (M : Store K W) (m : M .State) (k : K) → M .sized m ≡ true → M .kept k ≡ 0 → M .damagedFully m ≡ false → entry M m k ≡ spotBy M m k (path M m k)
 unfolding entry need pass
 entry-clear M m k z y h = rw (z, y, h)
 
@@ -254,11 +254,11 @@ module _ {K W : Type 0} (M : Store K W) (homes : (m : M .State) (k : K) → M .s
 
     taken-rows : (k : K) → First (remove-rows M m k) (numberIn (remove M m k))
     unfolding remove
-    taken-rows k = first-sized (M .sized m) _ _ (λ z. first-pass (M .asked k) _ _ (λ y. first-harmed (M .harmed m) _ _ _ (λ h. first-seen M homes m k)))
+    taken-rows k = first-sized (M .sized m) _ _ (λ z. first-pass (M .asked k) _ _ (λ y. first-harmed (M .damagedFully m) _ _ _ (λ h. first-seen M homes m k)))
 
     placed-rows : (k : K) → First (place-rows M m k) (numberIn (entry M m k))
     unfolding entry
-    placed-rows k = first-sized (M .sized m) _ _ (λ z. first-pass (M .kept k) _ _ (λ y. first-harmed (M .harmed m) _ _ _ (λ h. first-spot M homes m k z)))
+    placed-rows k = first-sized (M .sized m) _ _ (λ z. first-pass (M .kept k) _ _ (λ y. first-harmed (M .damagedFully m) _ _ _ (λ h. first-spot M homes m k z)))
 
     gripped-rows : (s : ℕ) (k : K) → First (grip-rows M m s k) (numberIn (occupied-get M m s k))
     unfolding occupied-get
@@ -266,11 +266,11 @@ module _ {K W : Type 0} (M : Store K W) (homes : (m : M .State) (k : K) → M .s
 
     dropped-rows : (s : ℕ) (k : K) → First (drop-rows M m s k) (numberIn (occupied-remove M m s k))
     unfolding occupied-remove
-    dropped-rows s k = first-sized (M .sized m) _ _ (λ z. first-pass (M .asked k) _ _ (λ y. first-harmed (M .harmed m) _ _ _ (λ h. first-grip M homes m s k)))
+    dropped-rows s k = first-sized (M .sized m) _ _ (λ z. first-pass (M .asked k) _ _ (λ y. first-harmed (M .damagedFully m) _ _ _ (λ h. first-grip M homes m s k)))
 
     opened-rows : (s : ℕ) (k : K) → First (open-rows M m s k) (numberIn (vacancy M m s k))
     unfolding vacancy
-    opened-rows s k = first-sized (M .sized m) _ _ (λ z. first-pass (M .kept k) _ _ (λ y. first-harmed (M .harmed m) _ _ _ (λ h. first-open M homes m s k (entry-clear M m k z y h))))
+    opened-rows s k = first-sized (M .sized m) _ _ (λ z. first-pass (M .kept k) _ _ (λ y. first-harmed (M .damagedFully m) _ _ _ (λ h. first-open M homes m s k (entry-clear M m k z y h))))
 
     counted-rows : First (count-rows M m) (numberIn (length M m))
     unfolding length numberIn
@@ -312,17 +312,17 @@ module _ {K W : Type 0} (M : Store K W) (homes : (m : M .State) (k : K) → M .s
       (λ x. first-need (eqb (M .bytes m) (M .bytes n)) 1 _ _ _ (λ e. eqb-false (M .bytes m) (M .bytes n) e) (λ e f. f (eqb-true (M .bytes m) (M .bytes n) e))
       (λ w. none-applies))))
 
-  abbrev Ruin : M .State → Type 0
-  Ruin m = BadSomewhere M m ⊎ (M .harmed m ≡ true)
+  abbrev AnyDamage : M .State → Type 0
+  AnyDamage m = DamagedSomewhere M m ⊎ (M .damagedFully m ≡ true)
 
-  ruined-is : (m : M .State) → ruined M m ≡ true → Ruin m
-  unfolding ruined
-  ruined-is m e = by-bool (hurtful M m) (λ h. inl (hurt-somewhere M m h)) (λ h. inr (rw h at e))
+  ruined-is : (m : M .State) → anyDamage M m ≡ true → AnyDamage m
+  unfolding anyDamage
+  ruined-is m e = by-bool (damagedSlots M m) (λ h. inl (hurt-somewhere M m h)) (λ h. inr (rw h at e))
 
-  is-ruined : (m : M .State) → ruined M m ≡ false → Ruin m → ⊥
-  unfolding ruined
-  is-ruined m e (inl b) = by-bool (hurtful M m) (λ h. let c : _≡_ {A = Bool} true false = rw h at e in clash cc) (λ h. somewhere-hurt M m b h)
-  is-ruined m e (inr h) = by-bool (hurtful M m)
+  is-ruined : (m : M .State) → anyDamage M m ≡ false → AnyDamage m → ⊥
+  unfolding anyDamage
+  is-ruined m e (inl b) = by-bool (damagedSlots M m) (λ h. let c : _≡_ {A = Bool} true false = rw h at e in clash cc) (λ h. somewhere-hurt M m b h)
+  is-ruined m e (inr h) = by-bool (damagedSlots M m)
       (λ x. let c : _≡_ {A = Bool} true false = rw x at e in clash cc)
       (λ x. let c : _≡_ {A = Bool} true false = sym h ∙ (rw x at e) in clash cc)
 
@@ -330,8 +330,8 @@ module _ {K W : Type 0} (M : Store K W) (homes : (m : M .State) (k : K) → M .s
   unfolding union numberIn
   united-rows l r = joined-row (M .sized l) 1 _ _ _ _ (λ e. e) (λ e f. false-sized (M .sized l) e f)
       (λ z. first-sized (M .sized r) _ _
-      (λ y. joined-row (not (ruined M l)) 5 _ _ _ _ (λ e. ruined-is l (not-false (ruined M l) e)) (λ e f. is-ruined l (not-true (ruined M l) e) f)
-      (λ x. first-need (not (ruined M r)) 5 _ _ _ (λ e. ruined-is r (not-false (ruined M r) e)) (λ e f. is-ruined r (not-true (ruined M r) e) f)
+      (λ y. joined-row (not (anyDamage M l)) 5 _ _ _ _ (λ e. ruined-is l (not-false (anyDamage M l) e)) (λ e f. is-ruined l (not-true (anyDamage M l) e) f)
+      (λ x. first-need (not (anyDamage M r)) 5 _ _ _ (λ e. ruined-is r (not-false (anyDamage M r) e)) (λ e f. is-ruined r (not-true (anyDamage M r) e) f)
       (λ w. first-need (leb (needs M (λ k. 1) l r) (M .size l - live-count M l)) 7 _ _ _ (λ e. leb-false (needs M (λ k. 1) l r) (M .size l - live-count M l) e) (λ e f. omega (arith, leb-true (needs M (λ k. 1) l r) (M .size l - live-count M l) e))
       (λ u. first-need (leb (needs M (M .weight) l r) (M .bytes l - used M l)) 8 _ _ _ (λ e. leb-false (needs M (M .weight) l r) (M .bytes l - used M l) e) (λ e f. omega (arith, leb-true (needs M (M .weight) l r) (M .bytes l - used M l) e))
       (λ v. none-applies))))))
@@ -374,4 +374,4 @@ module _ {K W : Type 0} (M : Store K W) (homes : (m : M .State) (k : K) → M .s
   demand-1 w x (own c) = own-first w x c
   demand-1 w x (copies y) = numbered (λ u. fine) (λ a. refl) _ _ (copied-rows (w x) (w y))
   demand-1 w x (unions y) = numbered (λ u. fine) (λ a. refl) _ _ (united-rows (w x) (w y))
-  demand-1 w x (steps a b) = numbered paced (λ p. refl) _ _ (stepped-rows (w x) a b)
+  demand-1 w x (steps a b) = numbered stepped (λ p. refl) _ _ (stepped-rows (w x) a b)

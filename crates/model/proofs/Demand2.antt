@@ -8,7 +8,7 @@ use Rattle.model.specs.Slots.{pairs}
 use Rattle.model.specs.Finite.{Finite, isSome, empty, union-prefer-right, insertAll}
 use Rattle.model.specs.Store.{Store}
 use Rattle.model.specs.Calls.{Or, no, ok, acted, capacity, after-make, copy, after-copy, storeAll, union, after-union}
-use Rattle.model.specs.Machine.{Own, Call, own, copies, unions, steps, fine, paced, report, World, tells, leaves, stepping, answer, left}
+use Rattle.model.specs.Machine.{Own, Call, own, copies, unions, steps, fine, stepped, report, World, tells, leaves, stepping, answer, left}
 use Rattle.model.specs.Demand2.{refuses, grows, renews, mapped, joined, next}
 use Rattle.model.specs.Lawful.{Lawful, Shows}
 use Rattle.model.proofs.Cases.{by-bool, clash}
@@ -59,7 +59,7 @@ module _ {K W : Type 0} (M : Store K W) (L : Lawful M) where
   left-shows w e known x (own c) f q = own-left (w x) (e x) (known x) c f q
   left-shows w e known x (copies y) f q = acted-left (w x) (copy M (w x) (w y)) (w y) (e x) (e y) f (known x) (λ u t r. known y f r) q
   left-shows w e known x (unions y) f q = acted-left (w x) (union M (w x) (w y)) _ (e x) (joined M (e x) (e y) (pairs (M .slots (w y)) (M .size (w y)))) f (known x) (λ u t r. joined-shows (w x) (w y) (e x) (e y) (known x) (known y) f u t r) q
-  left-shows w e known x (steps a b) f q = known x f (by-bool (refuses (report {K = K} paced (stepping M (w x) a b))) (λ p. rw p at q) (λ p. rw p at q))
+  left-shows w e known x (steps a b) f q = known x f (by-bool (refuses (report {K = K} stepped (stepping M (w x) a b))) (λ p. rw p at q) (λ p. rw p at q))
 
 -- a known table stays known after every accepted call, but a copy onto it from a table that is not
 module _ {K W : Type 0} (M : Store K W) (w : World M) (e : ℕ → Option (Finite K W)) (x : ℕ) (k : isSome (e x) ≡ true) where

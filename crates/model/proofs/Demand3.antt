@@ -7,12 +7,12 @@ use mathlib.Core.Option.{some}
 use native.Mathlib.Omega.{arith}
 use borrow.Author.Tests.{lt-ltb, le-ltb, le-leb, ne-eqb, not-true}
 use lib.Dec.{ltb, eqb}
-use Rattle.model.specs.Slots.{Slot, never, freed, bad, live, Table, Keys}
+use Rattle.model.specs.Slots.{Slot, never, freed, damaged, live, Table, Keys}
 use Rattle.model.specs.Path.{from}
 use Rattle.model.specs.Finite.{isSome}
 use Rattle.model.specs.Calls.{Or, no, ok, need, pass}
-use Rattle.model.specs.Walk.{Paced, pair, halts, halted, reachOf, paceTo, pace, step, movedBy}
-use Rattle.model.specs.Demand3.{Machine, steps, calls, handsOut, unrefused, lookIn, Run, has, stateAfter, walkAfter, good, times, stays, lasts, Walked, Orderly}
+use Rattle.model.specs.Walk.{StepAnswer, pair, halts, halted, reachOf, stepWithin, pace, step, movedBy}
+use Rattle.model.specs.Demand3.{Machine, steps, calls, handsOut, unrefused, lookIn, Run, has, stateAfter, walkAfter, good, times, stays, lasts, Walked, LawfulMachine}
 use Rattle.model.proofs.Cases.{by-bool, by-lt, by-eq, by-same, both, clash}
 use Rattle.model.proofs.Slots.{look-some}
 use Rattle.model.proofs.Finite.{some-is}
@@ -49,7 +49,7 @@ module _ {K W : Type 0} (E : Keys K) (S : ℕ) (t : Table K W) (once : (i j : �
   unfolding handsOut movedBy
   step-past bar w b i k v l e = go (step S t bar w b) refl
     where
-      told : (a : Paced K W) → Strode S t w b a → handsOut E k (ok a) + past i w ≡ past i (movedBy w (ok a))
+      told : (a : StepAnswer K W) → Strode S t w b a → handsOut E k (ok a) + past i w ≡ past i (movedBy w (ok a))
       told a (strode-pair j k′ v′ lo hi u q none-between r) = rw r (by-same E k k′
           (λ s x. let d : i ≡ j = once i j k v v′ l hi e (q ∙ ap (λ y. live y v′) (sym s)) in
           rw x (omega (arith, past-none i w (omega arith), past-one i (suc j) (omega arith))))
@@ -65,7 +65,7 @@ module _ {K W : Type 0} (E : Keys K) (S : ℕ) (t : Table K W) (once : (i j : �
       told a (strode-nothing x lo hi u none-between r) = rw r (past-same i w x (λ y. omega arith) (λ y. by-lt i x (λ z o. absurd (not-between t i k v e (none-between i y z))) (λ z o. z)))
       told a (strode-done q r) = rw (r, q) (omega arith)
 
-      go : (a : Or (Paced K W)) → step S t bar w b ≡ a → handsOut E k a + past i w ≡ past i (movedBy w a)
+      go : (a : Or (StepAnswer K W)) → step S t bar w b ≡ a → handsOut E k a + past i w ≡ past i (movedBy w a)
       go (no n) p = omega arith
       go (ok a) p = told a (strode S t w bar b a p)
 
@@ -74,12 +74,12 @@ module _ {K W : Type 0} (S : ℕ) (t : Table K W) where
   unfolding movedBy
   step-high bar w b l = go (step S t bar w b) refl
     where
-      told : (a : Paced K W) → Strode S t w b a → movedBy w (ok a) ≤ S
+      told : (a : StepAnswer K W) → Strode S t w b a → movedBy w (ok a) ≤ S
       told a (strode-pair j k v lo hi u q c r) = rw r hi
       told a (strode-nothing x lo hi u c r) = rw r hi
       told a (strode-done q r) = rw r (omega arith)
 
-      go : (a : Or (Paced K W)) → step S t bar w b ≡ a → movedBy w a ≤ S
+      go : (a : Or (StepAnswer K W)) → step S t bar w b ≡ a → movedBy w a ≤ S
       go (no n) p = l
       go (ok a) p = told a (strode S t w bar b a p)
 
@@ -87,12 +87,12 @@ module _ {K W : Type 0} (S : ℕ) (t : Table K W) where
   unfolding movedBy unrefused
   step-moves bar w b r l h = go (step S t bar w b) refl h
     where
-      told : (a : Paced K W) → Strode S t w b a → S ≤ 1 + r + w → S ≤ r + movedBy w (ok a)
+      told : (a : StepAnswer K W) → Strode S t w b a → S ≤ 1 + r + w → S ≤ r + movedBy w (ok a)
       told a (strode-pair j k v lo hi u q c p) h = rw p (omega arith)
       told a (strode-nothing x lo hi u c p) h = rw p (omega arith)
       told a (strode-done q p) h = rw p (omega arith)
 
-      go : (a : Or (Paced K W)) → step S t bar w b ≡ a → S ≤ unrefused a + r + w → S ≤ r + movedBy w a
+      go : (a : Or (StepAnswer K W)) → step S t bar w b ≡ a → S ≤ unrefused a + r + w → S ≤ r + movedBy w a
       go (no n) p h = omega arith
       go (ok a) p h = told a (strode S t w bar b a p) h
 
@@ -104,21 +104,21 @@ module _ {K W : Type 0} (S : ℕ) (t : Table K W) where
       go (strode-nothing x lo hi u c p) = clash cc
       go (strode-done q p) = clash cc
 
-  halted-unrefused : (w j : ℕ) (s : Slot K W) → (s ≡ bad → ⊥) → unrefused (halted w j s) ≡ 1
+  halted-unrefused : (w j : ℕ) (s : Slot K W) → (s ≡ damaged → ⊥) → unrefused (halted w j s) ≡ 1
   unfolding halted unrefused
   halted-unrefused w j never h = refl
   halted-unrefused w j freed h = refl
-  halted-unrefused w j bad h = absurd (h refl)
+  halted-unrefused w j damaged h = absurd (h refl)
   halted-unrefused w j (live a v) h = refl
 
-  pub step-going : (w b : ℕ) → ((i : ℕ) → i < S → t i ≡ bad → ⊥) → 0 < b → w ≤ S → unrefused (step S t 0 w b) ≡ 1
-  unfolding step pace paceTo need pass unrefused
+  pub step-going : (w b : ℕ) → ((i : ℕ) → i < S → t i ≡ damaged → ⊥) → 0 < b → w ≤ S → unrefused (step S t 0 w b) ≡ 1
+  unfolding step pace stepWithin need pass unrefused
   step-going w b whole l h = rw (ne-eqb b 0 (omega arith), le-leb w S h) (by-bool (eqb w S) (λ e. rw e)
       (λ e. rw e (by-lt (from (λ i. halts (t i)) (reachOf S w b) w) (w + reachOf S w b)
       (λ c p. rw p (halted-unrefused w (from (λ i. halts (t i)) (reachOf S w b) w) (t (from (λ i. halts (t i)) (reachOf S w b) w)) (whole (from (λ i. halts (t i)) (reachOf S w b) w) (omega (arith, reach-high S w b)))))
       (λ c p. rw p))))
 
-module _ {K W : Type 0} (M : Machine K W) (O : Orderly M) where
+module _ {K W : Type 0} (M : Machine K W) (O : LawfulMachine M) where
   -- a key that stays is in the map now
   stay-now : (es : Run M) (x : M .State) (k : K) → stays M k x es ≡ true → (v : W) × (lookIn (M .map x) k ≡ some v)
   unfolding stays has
@@ -136,18 +136,18 @@ module _ {K W : Type 0} (M : Machine K W) (O : Orderly M) where
       (g, y, not-true (M .wipes x c) n, r, stay-now es (M .after x c) k r)
 
   -- a key that stays, stays in its slot; and it is handed out exactly when the walk passes that slot
-  stay-slot : (es : Run M) (x : M .State) → O .Fine x → lasts M x es ≡ true → (k : K) (i : ℕ) (v : W) → i < M .size → O .table x i ≡ live k v → stays M k x es ≡ true → (w : W) × (O .table (stateAfter M x es) i ≡ live k w)
+  stay-slot : (es : Run M) (x : M .State) → O .SoundState x → lasts M x es ≡ true → (k : K) (i : ℕ) (v : W) → i < M .size → O .table x i ≡ live k v → stays M k x es ≡ true → (w : W) × (O .table (stateAfter M x es) i ≡ live k w)
   unfolding stays stateAfter lasts
   stay-slot [] x f z k i v l e s = (v, e)
   stay-slot (steps b ∷ es) x f z k i v l e s = stay-slot es x f z k i v l e (both (has M x k) (stays M k x es) s .1)
   stay-slot (calls c ∷ es) x f z k i v l e s =
       let (g, y, n, r, (w, p)) = onwards c es x k z s in
-      stay-slot es (M .after x c) (O .after-fine x c f g) y k i w l (O .stands x c f g n i k v w l e p) r
+      stay-slot es (M .after x c) (O .after-sound x c f g) y k i w l (O .stands x c f g n i k v w l e p) r
 
-  stepped-past : (x : M .State) (q : M .Ticket) (w : ℕ) (b : M .Step) → O .Fine x → (k : K) (i : ℕ) (v : W) → i < M .size → O .table x i ≡ live k v → handsOut (M .keys) k (M .answers x q w b) + past i w ≡ past i (movedBy w (M .answers x q w b))
+  stepped-past : (x : M .State) (q : M .Ticket) (w : ℕ) (b : M .Step) → O .SoundState x → (k : K) (i : ℕ) (v : W) → i < M .size → O .table x i ≡ live k v → handsOut (M .keys) k (M .answers x q w b) + past i w ≡ past i (movedBy w (M .answers x q w b))
   stepped-past x q w b f k i v l e = rw (O .paces x f q w b) (step-past (M .keys) (M .size) (O .table x) (O .once x f) (M .bar x q) w (M .budget b) i k v l e)
 
-  times-past : (es : Run M) (x : M .State) (q : M .Ticket) (w : ℕ) → O .Fine x → lasts M x es ≡ true → (k : K) (i : ℕ) (v : W) → i < M .size → O .table x i ≡ live k v → stays M k x es ≡ true → times M k x q w es + past i w ≡ past i (walkAfter M x q w es)
+  times-past : (es : Run M) (x : M .State) (q : M .Ticket) (w : ℕ) → O .SoundState x → lasts M x es ≡ true → (k : K) (i : ℕ) (v : W) → i < M .size → O .table x i ≡ live k v → stays M k x es ≡ true → times M k x q w es + past i w ≡ past i (walkAfter M x q w es)
   unfolding stays times walkAfter lasts
   times-past [] x q w f z k i v l e s = omega arith
   times-past (steps b ∷ es) x q w f z k i v l e s =
@@ -156,42 +156,42 @@ module _ {K W : Type 0} (M : Machine K W) (O : Orderly M) where
       omega (arith, one, rest)
   times-past (calls c ∷ es) x q w f z k i v l e s =
       let (g, y, n, r, (u, p)) = onwards c es x k z s in
-      times-past es (M .after x c) q w (O .after-fine x c f g) y k i u l (O .stands x c f g n i k v u l e p) r
+      times-past es (M .after x c) q w (O .after-sound x c f g) y k i u l (O .stands x c f g n i k v u l e p) r
 
-  fine-after : (es : Run M) (x : M .State) → O .Fine x → lasts M x es ≡ true → O .Fine (stateAfter M x es)
+  fine-after : (es : Run M) (x : M .State) → O .SoundState x → lasts M x es ≡ true → O .SoundState (stateAfter M x es)
   unfolding stateAfter lasts
   fine-after [] x f z = f
   fine-after (steps b ∷ es) x f z = fine-after es x f z
-  fine-after (calls c ∷ es) x f z = let (g, y) = both (isSome (M .map (M .after x c))) (lasts M (M .after x c) es) z in fine-after es (M .after x c) (O .after-fine x c f g) y
+  fine-after (calls c ∷ es) x f z = let (g, y) = both (isSome (M .map (M .after x c))) (lasts M (M .after x c) es) z in fine-after es (M .after x c) (O .after-sound x c f g) y
 
   -- a step leaves the walk within the slots, and an unrefused one moves it on
-  stepped-high : (x : M .State) (q : M .Ticket) (w : ℕ) (b : M .Step) → O .Fine x → w ≤ M .size → movedBy w (M .answers x q w b) ≤ M .size
+  stepped-high : (x : M .State) (q : M .Ticket) (w : ℕ) (b : M .Step) → O .SoundState x → w ≤ M .size → movedBy w (M .answers x q w b) ≤ M .size
   stepped-high x q w b f l = rw (O .paces x f q w b) (step-high (M .size) (O .table x) (M .bar x q) w (M .budget b) l)
 
-  walk-high : (es : Run M) (x : M .State) (q : M .Ticket) (w : ℕ) → O .Fine x → lasts M x es ≡ true → w ≤ M .size → walkAfter M x q w es ≤ M .size
+  walk-high : (es : Run M) (x : M .State) (q : M .Ticket) (w : ℕ) → O .SoundState x → lasts M x es ≡ true → w ≤ M .size → walkAfter M x q w es ≤ M .size
   unfolding walkAfter lasts
   walk-high [] x q w f z l = l
   walk-high (steps b ∷ es) x q w f z l = walk-high es x q (movedBy w (M .answers x q w b)) f z (stepped-high x q w b f l)
-  walk-high (calls c ∷ es) x q w f z l = let (g, y) = both (isSome (M .map (M .after x c))) (lasts M (M .after x c) es) z in walk-high es (M .after x c) q w (O .after-fine x c f g) y l
+  walk-high (calls c ∷ es) x q w f z l = let (g, y) = both (isSome (M .map (M .after x c))) (lasts M (M .after x c) es) z in walk-high es (M .after x c) q w (O .after-sound x c f g) y l
 
-  stepped-moves : (x : M .State) (q : M .Ticket) (w : ℕ) (b : M .Step) (r : ℕ) → O .Fine x → w ≤ M .size → M .size ≤ unrefused (M .answers x q w b) + r + w → M .size ≤ r + movedBy w (M .answers x q w b)
+  stepped-moves : (x : M .State) (q : M .Ticket) (w : ℕ) (b : M .Step) (r : ℕ) → O .SoundState x → w ≤ M .size → M .size ≤ unrefused (M .answers x q w b) + r + w → M .size ≤ r + movedBy w (M .answers x q w b)
   stepped-moves x q w b r f l h = rw (O .paces x f q w b) (step-moves (M .size) (O .table x) (M .bar x q) w (M .budget b) r l (rw (O .paces x f q w b) at h))
 
-  good-ends : (es : Run M) (x : M .State) (q : M .Ticket) (w : ℕ) → O .Fine x → lasts M x es ≡ true → w ≤ M .size → M .size ≤ good M x q w es + w → walkAfter M x q w es ≡ M .size
+  good-ends : (es : Run M) (x : M .State) (q : M .Ticket) (w : ℕ) → O .SoundState x → lasts M x es ≡ true → w ≤ M .size → M .size ≤ good M x q w es + w → walkAfter M x q w es ≡ M .size
   unfolding walkAfter good lasts
   good-ends [] x q w f z l h = omega arith
   good-ends (steps b ∷ es) x q w f z l h = good-ends es x q (movedBy w (M .answers x q w b)) f z (stepped-high x q w b f l) (stepped-moves x q w b (good M x q (movedBy w (M .answers x q w b)) es) f l h)
-  good-ends (calls c ∷ es) x q w f z l h = let (g, y) = both (isSome (M .map (M .after x c))) (lasts M (M .after x c) es) z in good-ends es (M .after x c) q w (O .after-fine x c f g) y l h
+  good-ends (calls c ∷ es) x q w f z l h = let (g, y) = both (isSome (M .map (M .after x c))) (lasts M (M .after x c) es) z in good-ends es (M .after x c) q w (O .after-sound x c f g) y l h
 
-  going-on : (x : M .State) (q : M .Ticket) (w : ℕ) (b : M .Step) → O .Fine x → 0 < M .budget b → w ≤ M .size → M .bar x q ≡ 0 → unrefused (M .answers x q w b) ≡ 1
+  going-on : (x : M .State) (q : M .Ticket) (w : ℕ) (b : M .Step) → O .SoundState x → 0 < M .budget b → w ≤ M .size → M .bar x q ≡ 0 → unrefused (M .answers x q w b) ≡ 1
   going-on x q w b f l h e = rw (O .paces x f q w b, e) (step-going (M .size) (O .table x) w (M .budget b) (O .whole x f) l h)
 
   -- a step that hands out a pair stopped at its live slot
-  stepped-pair : (x : M .State) (q : M .Ticket) (w : ℕ) (b : M .Step) → O .Fine x → (k : K) (v : W) (y n : ℕ) → M .answers x q w b ≡ ok (pair k v y n) → (j : ℕ) × (w ≤ j) × (j < M .size) × (O .table x j ≡ live k v) × (y ≡ suc j)
+  stepped-pair : (x : M .State) (q : M .Ticket) (w : ℕ) (b : M .Step) → O .SoundState x → (k : K) (v : W) (y n : ℕ) → M .answers x q w b ≡ ok (pair k v y n) → (j : ℕ) × (w ≤ j) × (j < M .size) × (O .table x j ≡ live k v) × (y ≡ suc j)
   stepped-pair x q w b f k v y n e = step-pair (M .size) (O .table x) (M .bar x q) w (M .budget b) k v y n (sym (O .paces x f q w b) ∙ e)
 
   -- demand 3
-  pub demand-3 : (x : M .State) → O .Fine x → Walked M x
+  pub demand-3 : (x : M .State) → O .SoundState x → Walked M x
   demand-3 x f = record {
     ending = λ es t h. good-ends es x (M .ticket x) 0 f t (omega arith) (omega arith);
     going = λ es b t l e. going-on (stateAfter M x es) (M .ticket x) (walkAfter M x (M .ticket x) 0 es) b (fine-after es x f t) l (walk-high es x (M .ticket x) 0 f t (omega arith)) e;

@@ -6,12 +6,12 @@ use mathlib.Core.Path.{_≡_, refl, sym, _∙_, ap}
 use native.Mathlib.Omega.{arith}
 use borrow.Author.Tests.{le-leb, lt-leb, leb-true, leb-false}
 use lib.Dec.{leb}
-use Rattle.model.specs.Slots.{Slot, never, freed, bad, live, holds}
+use Rattle.model.specs.Slots.{Slot, never, freed, damaged, live, holds}
 use Rattle.model.specs.Path.{hit, freeAt}
 use Rattle.model.specs.Finite.{Finite, isSome, contains, mass, len}
-use Rattle.model.specs.Store.{Store, path, slotAt, pathLength, live-count, used, hurtful}
-use Rattle.model.specs.Calls.{Or, no, ok, need, Seen, found, absent, Spot, occupied, vacant, seenBy, spotBy, capacity, length, reserve, gripOn, grip}
-use Rattle.model.specs.Demand2.{grown, grips}
+use Rattle.model.specs.Store.{Store, path, slotAt, pathLength, live-count, used, damagedSlots}
+use Rattle.model.specs.Calls.{Or, no, ok, need, Seen, found, absent, Spot, occupied, vacant, seenBy, spotBy, capacity, length, reserve, heldOn, heldAt}
+use Rattle.model.specs.Demand2.{grown, holdsNow}
 use Rattle.model.specs.Lawful.{Lawful, Shows}
 use Rattle.model.proofs.Cases.{by-bool, by-lt, by-same}
 use Rattle.model.proofs.Path.{hit-examined}
@@ -39,9 +39,9 @@ module _ {K W : Type 0} (M : Store K W) (L : Lawful M) (m : M .State) (f : Finit
   -- the tests before the path pass
   open-need : {A : Type 0} (a : Or A) → need (M .sized m) 1 a ≡ a
   unfolding need
-  open-need a = rw (s .healthy .sized)
+  open-need a = rw (s .soundTable .sized)
 
-  whole-need : {A : Type 0} (a : Or A) → need (not (hurtful M m)) 5 a ≡ a
+  whole-need : {A : Type 0} (a : Or A) → need (not (damagedSlots M m)) 5 a ≡ a
   unfolding need
   whole-need a = rw (shows-unhurt M L m f s)
 
@@ -58,7 +58,7 @@ module _ {K W : Type 0} (M : Store K W) (L : Lawful M) (m : M .State) (f : Finit
   len-high = omega (arith, live-len, count-high (M .slots m) (M .size m))
 
   pub used-high : mass (M .weight) (f .dom) ≤ M .bytes m
-  used-high = omega (arith, used-mass, L .within m (s .healthy .sized) (s .healthy .good))
+  used-high = omega (arith, used-mass, L .within m (s .soundTable .sized) (s .soundTable .good))
 
   hit-length : (k : K) (n : ℕ) (v : W) → path M m k ≡ hit n v → pathLength M m k ≡ suc n
   unfolding path pathLength
@@ -87,21 +87,21 @@ module _ {K W : Type 0} (M : Store K W) (L : Lawful M) (m : M .State) (f : Finit
           (λ c y. let z : ⊥ = omega (arith, room-free M L m f s k p c) in absurd z)
           (λ c y. rw (p, e, x, lt-leb (1 + mass (λ k. 1) (f .dom)) (M .size m) (omega (arith, live-len)))))
 
-  pub grip-is : (i : ℕ) (k : K) → grip M m i k ≡ cond (grips M m i k) (heldFor (f .look k)) (no 6)
-  unfolding grip grips need gripOn holds heldFor
+  pub grip-is : (i : ℕ) (k : K) → heldAt M m i k ≡ cond (holdsNow M m i k) (heldFor (f .look k)) (no 6)
+  unfolding heldAt holdsNow need heldOn holds heldFor
   grip-is i k = by-lt i (M .size m) (λ l x. rw x (go l (M .slots m i) refl)) (λ l x. rw x)
     where
-      go : (l : i < M .size m) (c : Slot K W) → M .slots m i ≡ c → gripOn M k c ≡ cond (holds (M .keys) k c) (heldFor (f .look k)) (no 6)
+      go : (l : i < M .size m) (c : Slot K W) → M .slots m i ≡ c → heldOn M k c ≡ cond (holds (M .keys) k c) (heldFor (f .look k)) (no 6)
       go l never e = refl
       go l freed e = refl
-      go l bad e = absurd (s .healthy .sound .whole i l e)
+      go l damaged e = absurd (s .soundTable .sound .whole i l e)
       go l (live a v) e = by-same (M .keys) k a
-          (λ q x. let p : f .look k ≡ some v = sym (s .looks k) ∙ sound-look (M .keys) (M .size m) (M .home m) (home-below M L m (s .healthy)) (M .slots m) (s .healthy .sound) k i v l (e ∙ ap (λ y. live y v) (sym q)) in rw (x, p))
+          (λ q x. let p : f .look k ≡ some v = sym (s .looks k) ∙ sound-look (M .keys) (M .size m) (M .home m) (home-below M L m (s .soundTable)) (M .slots m) (s .soundTable .sound) k i v l (e ∙ ap (λ y. live y v) (sym q)) in rw (x, p))
           (λ x. rw x)
 
   pub length-is : length M m ≡ ok (len f)
   unfolding length
-  length-is = rw (open-need (need (not (hurtful M m)) 5 (ok (live-count M m))), whole-need (ok (live-count M m)), live-len)
+  length-is = rw (open-need (need (not (damagedSlots M m)) 5 (ok (live-count M m))), whole-need (ok (live-count M m)), live-len)
 
   pub capacity-is : capacity M m ≡ ok (M .size m)
   unfolding capacity
@@ -109,4 +109,4 @@ module _ {K W : Type 0} (M : Store K W) (L : Lawful M) (m : M .State) (f : Finit
 
   pub reserve-is : (n : ℕ) → reserve M m n ≡ need (leb n (M .size m - len f)) 7 (ok tt)
   unfolding reserve
-  reserve-is n = rw (open-need (need (not (hurtful M m)) 5 (need (leb n (M .size m - live-count M m)) 7 (ok (tt {0})))), whole-need (need (leb n (M .size m - live-count M m)) 7 (ok (tt {0}))), live-len)
+  reserve-is n = rw (open-need (need (not (damagedSlots M m)) 5 (need (leb n (M .size m - live-count M m)) 7 (ok (tt {0})))), whole-need (need (leb n (M .size m - live-count M m)) 7 (ok (tt {0}))), live-len)

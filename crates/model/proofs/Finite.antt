@@ -5,7 +5,7 @@ use mathlib.Core.List.{List, [], _∷_, _++_}
 use mathlib.Core.Path.{_≡_, refl, sym, _∙_, ap}
 use mathlib.Core.Option.{Option, none, some}
 use native.Mathlib.Omega.{arith}
-use Rattle.model.specs.Slots.{Slot, never, freed, bad, live, Table, Keys, put, weigh, total, look}
+use Rattle.model.specs.Slots.{Slot, never, freed, damaged, live, Table, Keys, put, weigh, total, look}
 use Rattle.model.specs.Finite.{Finite, isSome, orElse, contains, member, Once, once-none, once-more, Proper, mass, select, empty, insert, remove, union-prefer-right}
 use Rattle.model.proofs.Cases.{by-bool, by-same, clash}
 use Rattle.model.proofs.Slots.{by-put, holds-live, look-some, look-gone, total-put}
@@ -118,7 +118,7 @@ module _ {K W : Type 0} (g : K → ℕ) where
   unfolding weigh
   weigh-dead never h = refl
   weigh-dead freed h = refl
-  weigh-dead bad h = refl
+  weigh-dead damaged h = refl
   weigh-dead (live a v) h = absurd (h a v refl)
 
   -- a table with no live slot weighs nothing

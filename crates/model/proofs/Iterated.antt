@@ -7,11 +7,11 @@ use mathlib.Core.Path.{_≡_, refl, sym, _∙_, ap, subst}
 use mathlib.Core.Logic.{⊎-elim}
 use native.Mathlib.Omega.{arith}
 use lib.ListN.{length, length-append}
-use Rattle.model.specs.Slots.{Slot, never, freed, bad, live, Table, Keys, weigh, total, count, pairOf, pairs, look}
+use Rattle.model.specs.Slots.{Slot, never, freed, damaged, live, Table, Keys, weigh, total, count, pairOf, pairs, look}
 use Rattle.model.specs.Finite.{Finite, isSome, firsts, contains, len, finiteOf}
 use Rattle.model.specs.Calls.{Or, no, ok}
-use Rattle.model.specs.Walk.{Paced, halts, step, movedBy}
-use Rattle.model.specs.Demand3.{Machine, pairFrom, lookIn, has, walkAfter, times, handed, stays, lasts, Walked, Orderly}
+use Rattle.model.specs.Walk.{StepAnswer, halts, step, movedBy}
+use Rattle.model.specs.Demand3.{Machine, pairFrom, lookIn, has, walkAfter, times, handed, stays, lasts, Walked, LawfulMachine}
 use Rattle.model.specs.Iterated.{onlySteps, seconds, Iterated}
 use Rattle.model.proofs.Cases.{by-lt, clash}
 use Rattle.model.proofs.Slots.{look-some}
@@ -24,7 +24,7 @@ module _ {K W : Type 0} where
   unfolding halts pairOf
   idle-pair never e = refl
   idle-pair freed e = refl
-  idle-pair bad e = refl
+  idle-pair damaged e = refl
   idle-pair (live a v) e = clash cc
 
   -- slots that are not live add no pair
@@ -48,12 +48,12 @@ module _ {K W : Type 0} where
   unfolding movedBy pairFrom
   step-pairs S t bar w b = go (step S t bar w b) refl
     where
-      told : (a : Paced K W) → Strode S t w b a → pairs t (movedBy w (ok a)) ≡ pairs t w ++ pairFrom (ok a)
+      told : (a : StepAnswer K W) → Strode S t w b a → pairs t (movedBy w (ok a)) ≡ pairs t w ++ pairFrom (ok a)
       told a (strode-pair j k v lo hi u q c r) = rw r (passed t w j k v lo q c)
       told a (strode-nothing x lo hi u c r) = rw r (pairs-gap t w x (omega arith) c ∙ sym (append-nil (pairs t w)))
       told a (strode-done q r) = rw (r, ← q) (sym (append-nil (pairs t w)))
 
-      go : (a : Or (Paced K W)) → step S t bar w b ≡ a → pairs t (movedBy w a) ≡ pairs t w ++ pairFrom a
+      go : (a : Or (StepAnswer K W)) → step S t bar w b ≡ a → pairs t (movedBy w a) ≡ pairs t w ++ pairFrom a
       go (no n) p = sym (append-nil (pairs t w))
       go (ok a) p = told a (strode S t w bar b a p)
 
@@ -61,14 +61,14 @@ module _ {K W : Type 0} where
   unfolding pairOf weigh
   pair-length never = refl
   pair-length freed = refl
-  pair-length bad = refl
+  pair-length damaged = refl
   pair-length (live a v) = refl
 
   only-slot : (s : Slot K W) (k : K) (v : W) → List·Memᴰ (k, v) (pairOf s) → s ≡ live k v
   unfolding pairOf
   only-slot never k v m = absurd (List·Memᴰ·not-nil m)
   only-slot freed k v m = absurd (List·Memᴰ·not-nil m)
-  only-slot bad k v m = absurd (List·Memᴰ·not-nil m)
+  only-slot damaged k v m = absurd (List·Memᴰ·not-nil m)
   only-slot (live a x) k v m = let e = List·Memᴰ·eq-of-singleton m in ap (λ p. live (p .0) (p .1)) (sym e)
 
   pairs-length : (t : Table K W) (n : ℕ) → length (pairs t n) ≡ count t n
@@ -129,11 +129,11 @@ module _ {K W : Type 0} where
   }
 
 module _ {K W : Type 0} (M : Machine K W) where
-  stepped-pairs : (O : Orderly M) (x : M .State) → O .Fine x → (q : M .Ticket) (w : ℕ) (b : M .Step) → pairs (O .table x) (movedBy w (M .answers x q w b)) ≡ pairs (O .table x) w ++ pairFrom (M .answers x q w b)
+  stepped-pairs : (O : LawfulMachine M) (x : M .State) → O .SoundState x → (q : M .Ticket) (w : ℕ) (b : M .Step) → pairs (O .table x) (movedBy w (M .answers x q w b)) ≡ pairs (O .table x) w ++ pairFrom (M .answers x q w b)
   stepped-pairs O x f q w b = rw (O .paces x f q w b) (step-pairs (M .size) (O .table x) (M .bar x q) w (M .budget b))
 
   -- steps with nothing between them hand out the pairs of the slots that they passed
-  handed-pairs : (O : Orderly M) (bs : List (M .Step)) (x : M .State) → O .Fine x → (q : M .Ticket) (w : ℕ) → pairs (O .table x) (walkAfter M x q w (onlySteps bs)) ≡ pairs (O .table x) w ++ handed M x q w (onlySteps bs)
+  handed-pairs : (O : LawfulMachine M) (bs : List (M .Step)) (x : M .State) → O .SoundState x → (q : M .Ticket) (w : ℕ) → pairs (O .table x) (walkAfter M x q w (onlySteps bs)) ≡ pairs (O .table x) w ++ handed M x q w (onlySteps bs)
   unfolding walkAfter handed onlySteps
   handed-pairs O [] x f q w = sym (append-nil (pairs (O .table x) w))
   handed-pairs O (b ∷ bs) x f q w =
@@ -142,7 +142,7 @@ module _ {K W : Type 0} (M : Machine K W) where
       ∙ append-assoc (pairs (O .table x) w) (pairFrom (M .answers x q w b)) (handed M x q (movedBy w (M .answers x q w b)) (onlySteps bs))
 
   -- a whole walk with no call in between: upstream's clauses for iter, keys and values
-  pub walk-iterated : (O : Orderly M) (x : M .State) → O .Fine x → (f : Finite K W) → M .map x ≡ some f → (bs : List (M .Step)) → walkAfter M x (M .ticket x) 0 (onlySteps bs) ≡ M .size → Iterated (M .keys) f (handed M x (M .ticket x) 0 (onlySteps bs))
+  pub walk-iterated : (O : LawfulMachine M) (x : M .State) → O .SoundState x → (f : Finite K W) → M .map x ≡ some f → (bs : List (M .Step)) → walkAfter M x (M .ticket x) 0 (onlySteps bs) ≡ M .size → Iterated (M .keys) f (handed M x (M .ticket x) 0 (onlySteps bs))
   unfolding pairs lookIn
   walk-iterated O x o f m bs e =
       let p : pairs (O .table x) (M .size) ≡ handed M x (M .ticket x) 0 (onlySteps bs) = ap (λ n. pairs (O .table x) n) (sym e) ∙ handed-pairs O bs x o (M .ticket x) 0 in

@@ -58,7 +58,7 @@ module _ {K W : Type 0} (M : Store K W) where
 
   -- maps that look up alike are shown alike
   pub shows-same : {m : M .State} (f g : Finite K W) → Shows M m f → ((k : K) → f .look k ≡ g .look k) → Proper (M .keys) g → Shows M m g
-  shows-same f g s e p = record { healthy = s .healthy; looks = λ k. s .looks k ∙ e k; proper = p }
+  shows-same f g s e p = record { soundTable = s .soundTable; looks = λ k. s .looks k ∙ e k; proper = p }
 
   module _ (L : Lawful M) (m : M .State) (f : Finite K W) (s : Shows M m f) where
     -- an accepted call's map, the old one where it is refused
@@ -69,14 +69,14 @@ module _ {K W : Type 0} (M : Store K W) where
 
     path-gone : (k : K) (e x : ℕ) → path M m k ≡ miss e x → f .look k ≡ none
     unfolding path
-    path-gone k e x q = sym (s .looks k) ∙ sound-gone (M .keys) (M .size m) (M .home m) (home-below M L m (s .healthy)) (M .slots m) (s .healthy .sound) k e x q
+    path-gone k e x q = sym (s .looks k) ∙ sound-gone (M .keys) (M .size m) (M .home m) (home-below M L m (s .soundTable)) (M .slots m) (s .soundTable .sound) k e x q
 
     pub filled-shows : (i e : ℕ) (k : K) (v : W) → spotBy M m k (path M m k) ≡ ok (vacant i e) → Shows M (M .fill m i k v) (insert (M .keys) f k v)
     filled-shows i e k v q =
         let (x, p, r, l, u) = spot-vacant M m k i e q in
         let y : x ≡ freeAt (M .size m) (M .home m k) (M .slots m) = path-free m k e x p in
         let z : i ≡ slotAt M m k (freeAt (M .size m) (M .home m k) (M .slots m)) = r ∙ ap (λ n. slotAt M m k n) y in
-        rw z (shows-fill M L m f s k v (path-gone k e x p) (omega arith) (omega (arith, L .within m (s .healthy .sized) (s .healthy .good))))
+        rw z (shows-fill M L m f s k v (path-gone k e x p) (omega arith) (omega (arith, L .within m (s .soundTable .sized) (s .soundTable .good))))
 
     pub insert-shows : (k : K) (v : W) → Shows M (after-insert M m k v) (cond (refuses (report {K = K} spot (entry M m k))) f (insert (M .keys) f k v))
     unfolding after-insert report refuses storedBy entry
@@ -86,7 +86,7 @@ module _ {K W : Type 0} (M : Store K W) where
         go (no n) e = s
         go (ok (occupied i w x)) e =
             let (n, p, q, t) = spot-occupied M m k w i x (entry-spot M m k (occupied i w x) e) in
-            let (l, c) = path-live m k n w (home-below M L m (s .healthy) k) p in
+            let (l, c) = path-live m k n w (home-below M L m (s .soundTable) k) p in
             rw q (shows-over M L m f s (slotAt M m k n) k v w l c)
         go (ok (vacant i x)) e = filled-shows i x k v (entry-spot M m k (vacant i x) e)
 
@@ -98,7 +98,7 @@ module _ {K W : Type 0} (M : Store K W) where
         go (no n) e = s
         go (ok (found w i x)) e =
             let (n, p, q, t) = seen-found M m k w i x (remove-seen M m k (found w i x) e) in
-            let (l, c) = path-live m k n w (home-below M L m (s .healthy) k) p in
+            let (l, c) = path-live m k n w (home-below M L m (s .soundTable) k) p in
             rw q (shows-free M L m f s (slotAt M m k n) k w l c)
         go (ok (absent x)) e =
             let (y, p) = seen-absent M m k x (remove-seen M m k (absent x) e) in
@@ -124,8 +124,8 @@ module _ {K W : Type 0} (M : Store K W) where
     -- every call on one table leaves the map that it names, unless refused
     pub own-shows : (c : Own K W) → Shows M (leaves M m c) (cond (refuses (tells M m c)) f (grows M c f))
     unfolding leaves tells grows refuses after-make after-set after-drop or-insert after-or-insert insert-entry after-insert-entry
-    own-shows makes = acted-shows (capacity M m) (λ n. fine) (M .wipe m) empty (λ a. refl) (λ a e. shows-wipe M L m (s .healthy .sized))
-    own-shows clears = acted-shows (capacity M m) (λ n. fine) (M .wipe m) empty (λ a. refl) (λ a e. shows-wipe M L m (s .healthy .sized))
+    own-shows makes = acted-shows (capacity M m) (λ n. fine) (M .wipe m) empty (λ a. refl) (λ a e. shows-wipe M L m (s .soundTable .sized))
+    own-shows clears = acted-shows (capacity M m) (λ n. fine) (M .wipe m) empty (λ a. refl) (λ a e. shows-wipe M L m (s .soundTable .sized))
     own-shows capacities = kept-shows (refuses (tells M m capacities))
     own-shows lens = kept-shows (refuses (tells M m lens))
     own-shows empties = kept-shows (refuses (tells M m empties))

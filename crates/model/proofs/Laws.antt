@@ -10,18 +10,18 @@ use mathlib.Core.Path.{_≡_, refl, sym, _∙_, ap}
 use native.Mathlib.Omega.{arith}
 use borrow.Author.Tests.{lt-ltb, leb-true, leb-false, le-leb, eqb-true, eq-eqb, not-true}
 use lib.Dec.{leb, eqb}
-use Rattle.model.specs.Slots.{never, bad, frees, live, made, pairs, look}
+use Rattle.model.specs.Slots.{never, damaged, frees, live, made, pairs, look}
 use Rattle.model.specs.Path.{hit, miss, freeAt}
 use Rattle.model.specs.Finite.{Finite, isSome, contains, member, mass, len, empty, insert, remove, firsts, finiteOf}
 use Rattle.model.specs.Store.{Store, path, slotAt, pathLength, live-count, used}
-use Rattle.model.specs.Calls.{lookupOf, Or, no, ok, need, pass, give, Seen, found, absent, Spot, occupied, vacant, on-occupied, on-vacant, seenBy, spotBy, get, entry, storedBy, after-insert, removedBy, after-remove, acted, capacity, after-make, reserve, copy, after-copy, ruleBy, rule, storeAll, missed, lacking, needs, union, after-union, gripOn, grip, occupied-get, after-set, occupied-remove, after-drop, goodFor, vacancy, vacant-insert, after-fill, or-insert, after-or-insert, insert-entry, after-insert-entry}
+use Rattle.model.specs.Calls.{lookupOf, Or, no, ok, need, pass, give, Seen, found, absent, Spot, occupied, vacant, on-occupied, on-vacant, seenBy, spotBy, get, entry, storedBy, after-insert, removedBy, after-remove, acted, capacity, after-make, reserve, copy, after-copy, ruleBy, rule, storeAll, missed, lacking, needs, union, after-union, heldOn, heldAt, occupied-get, after-set, occupied-remove, after-drop, goodFor, vacancy, vacant-insert, after-fill, or-insert, after-or-insert, insert-entry, after-insert-entry}
 use Rattle.model.specs.Calls
-use Rattle.model.specs.Walk.{Paced, pair, nothing, done, halts, step}
-use Rattle.model.specs.Machine.{makes, clears, capacities, lens, empties, reserves, gets, contains-keys, removes, entries, inserts, occupied-gets, occupied-removes, occupied-sets, vacant-inserts, or-inserts, insert-entries, Call, own, copies, unions, steps, Answer, refused, fine, number, truth, seen, spot, value, paced, report, World, tells, leaves, stepping, answer}
-use Rattle.model.specs.Demand1.{Row, row, First, none-applies, applies-here, goes-on, Absent, BadOnPath, BadSomewhere, sized-rows, count-rows, look-rows, place-rows, grip-rows, open-rows, rows, refusal}
+use Rattle.model.specs.Walk.{StepAnswer, pair, nothing, done, halts, step}
+use Rattle.model.specs.Machine.{makes, clears, capacities, lens, empties, reserves, gets, contains-keys, removes, entries, inserts, occupied-gets, occupied-removes, occupied-sets, vacant-inserts, or-inserts, insert-entries, Call, own, copies, unions, steps, Answer, refused, fine, number, truth, seen, spot, value, stepped, report, World, tells, leaves, stepping, answer}
+use Rattle.model.specs.Demand1.{Row, row, First, none-applies, applies-here, goes-on, Absent, DamagedOnPath, DamagedSomewhere, sized-rows, count-rows, look-rows, place-rows, grip-rows, open-rows, rows, refusal}
 use Rattle.model.specs.Demand2.{refuses, renews, EntryOf, is-occupied, is-vacant, is-full, is-tight}
 use Rattle.model.specs.Tables.{sweeps, Renewal}
-use Rattle.model.specs.Lawful.{Lawful, Healthy, Shows}
+use Rattle.model.specs.Lawful.{Lawful, SoundTable, Shows}
 use Rattle.model.proofs.Cases.{by-bool, by-lt, by-eq, clash}
 use Rattle.model.proofs.Slots.{put-same}
 use Rattle.model.proofs.Path.{at-below, hit-at, hit-examined, miss-examined, examined-low, examined-high, free-before, free-here, free-high}
@@ -34,7 +34,7 @@ use Rattle.model.proofs.Keeps.{path-free, insert-shows, remove-shows, s
 use Rattle.model.proofs.Walk.{Strode, strode-pair, strode-nothing, strode-done, strode}
 use Rattle.model.proofs.Union.{union-shows}
 use Rattle.model.proofs.Tables.{healthy-shows}
-use Rattle.model.proofs.Demand1.{Told, told-hit, told-miss, told-hurt, told, entry-clear, demand-1}
+use Rattle.model.proofs.Demand1.{PathSays, told-hit, told-miss, told-hurt, told, entry-clear, demand-1}
 
 module _ {A : Type 0} where
   -- a refusal is the test's own, or what stands behind it
@@ -57,7 +57,7 @@ refused-with (truth x) e = clash cc
 refused-with (seen x) e = clash cc
 refused-with (spot x) e = clash cc
 refused-with (value x) e = clash cc
-refused-with (paced x) e = clash cc
+refused-with (stepped x) e = clash cc
 
 -- an answer that passed is the answer
 pass-said : {A : Type 0} (n : ℕ) (a b : A) → pass n (ok a) ≡ ok b → a ≡ b
@@ -150,7 +150,7 @@ module _ {K W : Type 0} (M : Store K W) where
       let (f, p) = seen-absent M m k e (pass-ok (M .asked k) (seenBy M m k (path M m k)) (absent e) (need-ok (M .sized m) 1 (pass (M .asked k) (seenBy M m k (path M m k))) (absent e) q .1) .1) in
       (missing f p (told M m k), sym (miss-examined (M .keys) (M .size m) (M .home m k) (M .slots m) k e f p))
     where
-      missing : (f : ℕ) → path M m k ≡ miss e f → Told M m k → Absent M m k
+      missing : (f : ℕ) → path M m k ≡ miss e f → PathSays M m k → Absent M m k
       missing f p (told-hit n v r b a) = clash cc
       missing f p (told-miss x y r b a) = a
       missing f p (told-hurt r b a) = a
@@ -182,7 +182,7 @@ module _ {K W : Type 0} (M : Store K W) where
   unfolding lacking missed
   lacking-absent m k = go (told M m k)
     where
-      go : Told M m k → (lacking M m k ≡ true) ↔ Absent M m k
+      go : PathSays M m k → (lacking M m k ≡ true) ↔ Absent M m k
       go (told-hit n v p b a) = ((λ e. let c : _≡_ {A = Bool} false true = rw p at e in clash cc), (λ x. absurd (a x)))
       go (told-miss e f p b a) = ((λ x. a), (λ x. rw p))
       go (told-hurt p b a) = ((λ x. a), (λ x. rw p))
@@ -198,11 +198,11 @@ module _ {K W : Type 0} (M : Store K W) where
       by f r l y = (f, l, r, rw (r, y) (free-here (M .size m) (M .home m k) (M .slots m) (omega arith)), λ j c. free-before (M .size m) (M .home m k) (M .slots m) j (omega arith))
 
   -- the tests of a storing call, passed
-  stored-tests : {A : Type 0} (m : M .State) (n : ℕ) (a : Or A) (x : A) → need (M .sized m) 1 (pass n (need (not (M .harmed m)) 5 a)) ≡ ok x → (M .sized m ≡ true) × (n ≡ 0) × (not (M .harmed m) ≡ true) × (a ≡ ok x)
+  stored-tests : {A : Type 0} (m : M .State) (n : ℕ) (a : Or A) (x : A) → need (M .sized m) 1 (pass n (need (not (M .damagedFully m)) 5 a)) ≡ ok x → (M .sized m ≡ true) × (n ≡ 0) × (not (M .damagedFully m) ≡ true) × (a ≡ ok x)
   stored-tests m n a x e =
-      let (z, p) = need-ok (M .sized m) 1 (pass n (need (not (M .harmed m)) 5 a)) x e in
-      let (y, q) = pass-ok n (need (not (M .harmed m)) 5 a) x p in
-      let (h, r) = need-ok (not (M .harmed m)) 5 a x q in
+      let (z, p) = need-ok (M .sized m) 1 (pass n (need (not (M .damagedFully m)) 5 a)) x e in
+      let (y, q) = pass-ok n (need (not (M .damagedFully m)) 5 a) x p in
+      let (h, r) = need-ok (not (M .damagedFully m)) 5 a x q in
       (z, y, h, r)
 
   -- a vacant handle is good exactly when the key is absent and insert would use that slot without refusing
@@ -212,7 +212,7 @@ module _ {K W : Type 0} (M : Store K W) where
     (λ q.
         let (z, y, h, r) = stored-tests m (M .kept k) (goodFor M s (spotBy M m k (path M m k))) tt q in
         let (e, p) = good-vacant M m k s tt r in
-        (e, entry-clear M m k z y (not-true (M .harmed m) h) ∙ p)),
+        (e, entry-clear M m k z y (not-true (M .damagedFully m) h) ∙ p)),
     (λ (e, q).
         let (z, y, h, r) = stored-tests m (M .kept k) (spotBy M m k (path M m k)) (vacant s e) q in
         rw (z, y, h, r, eq-eqb s s refl)),
@@ -235,9 +235,9 @@ module _ {K W : Type 0} (M : Store K W) where
       ⊎-elim (λ c. inr (omega arith))
       (λ p. ⊎-elim (λ c. inl c)
       (λ r. ⊎-elim (λ c. inr (omega arith)) (λ t. inr (small (spotBy M m k (path M m k)) t))
-      (need-no (not (M .harmed m)) 5 (goodFor M s (spotBy M m k (path M m k))) n r))
-      (pass-no (M .kept k) (need (not (M .harmed m)) 5 (goodFor M s (spotBy M m k (path M m k)))) n p))
-      (need-no (M .sized m) 1 (pass (M .kept k) (need (not (M .harmed m)) 5 (goodFor M s (spotBy M m k (path M m k))))) n q)
+      (need-no (not (M .damagedFully m)) 5 (goodFor M s (spotBy M m k (path M m k))) n r))
+      (pass-no (M .kept k) (need (not (M .damagedFully m)) 5 (goodFor M s (spotBy M m k (path M m k)))) n p))
+      (need-no (M .sized m) 1 (pass (M .kept k) (need (not (M .damagedFully m)) 5 (goodFor M s (spotBy M m k (path M m k))))) n q)
     where
       small : (r : Or (Spot W)) → goodFor M s r ≡ no n → n ≤ 6
       small (no i) t = by-eq i 5
@@ -248,7 +248,7 @@ module _ {K W : Type 0} (M : Store K W) where
 
   -- an occupied handle is good exactly when its slot is live and holds that key now; then it reads the value there
   pub occupied-good : (m : M .State) (s : ℕ) (k : K) (v : W) → M .sized m ≡ true → M .asked k ≡ 0 → (occupied-get M m s k ≡ ok v) ↔ ((s < M .size m) × (M .slots m s ≡ live k v))
-  unfolding occupied-get need pass grip gripOn
+  unfolding occupied-get need pass heldAt heldOn
   occupied-good m s k v z y = ((λ e. grip-live M m k s v (occupied-grip M m k s v e)), (λ (l, q). rw (z, y, lt-ltb s (M .size m) l, q, M .keys .self k)))
 
   -- or_insert keeps a present value
@@ -297,13 +297,13 @@ module _ {K W : Type 0} (M : Store K W) (L : Lawful M) where
   make-never m i z = rw (z, L .wipe-wrote m z .slots)
 
   -- a union keeps a sound left sound, whatever the right
-  pub union-keeps-sound : (l r : M .State) → Healthy M l → Healthy M (after-union M l r)
+  pub union-keeps-sound : (l r : M .State) → SoundTable M l → SoundTable M (after-union M l r)
   unfolding after-union acted
   union-keeps-sound l r h = go (union M l r) refl
     where
-      go : (a : Or (Unit {0})) → union M l r ≡ a → Healthy M (acted M l a (storeAll M l (pairs (M .slots r) (M .size r))))
+      go : (a : Or (Unit {0})) → union M l r ≡ a → SoundTable M (acted M l a (storeAll M l (pairs (M .slots r) (M .size r))))
       go (no n) e = h
-      go (ok u) e = union-shows M L l r (finiteOf (M .keys) (M .slots l) (M .size l)) (healthy-shows M L l h) u e .healthy
+      go (ok u) e = union-shows M L l r (finiteOf (M .keys) (M .slots l) (M .size l)) (healthy-shows M L l h) u e .soundTable
 
   -- a copy is sound where its source is, with the same map
   pub copy-sound : (m n : M .State) (g : Finite K W) (u : Unit {0}) → Shows M n g → copy M m n ≡ ok u → Shows M (after-copy M m n) g
@@ -320,7 +320,7 @@ module _ {K W : Type 0} (M : Store K W) (L : Lawful M) (m : M .State) (f : Finit
       go (here n w p q l c) =
           let d : w ≡ v = cc in
           let x : suc n ≡ pathLength M m k = sym (hit-examined (M .keys) (M .size m) (M .home m k) (M .slots m) k n w p) in
-          (slotAt M m k n, c ∙ ap (λ y. live k y) d, rw (s .healthy .sized, a, p) (ap (λ y. ok (found y (slotAt M m k n) (suc n))) d ∙ ap (λ y. ok (found v (slotAt M m k n) y)) x))
+          (slotAt M m k n, c ∙ ap (λ y. live k y) d, rw (s .soundTable .sized, a, p) (ap (λ y. ok (found y (slotAt M m k n) (suc n))) d ∙ ap (λ y. ok (found v (slotAt M m k n) y)) x))
       go (gone p q) = clash cc
 
   -- or absent, with that number
@@ -330,7 +330,7 @@ module _ {K W : Type 0} (M : Store K W) (L : Lawful M) (m : M .State) (f : Finit
     where
       go : PathOf M L m f s k → get M m k ≡ ok (absent (pathLength M m k))
       go (here n w p q l c) = clash cc
-      go (gone p q) = rw (s .healthy .sized, a, p)
+      go (gone p q) = rw (s .soundTable .sized, a, p)
 
   -- an accepted insert maps the key to the value, and nothing else
   pub insert-map : (k : K) (v : W) (x : Spot W) → entry M m k ≡ ok x → Shows M (after-insert M m k v) (insert (M .keys) f k v)
@@ -354,7 +354,7 @@ module _ {K W : Type 0} (M : Store K W) (L : Lawful M) (m : M .State) (f : Finit
   pub occupied-reads : (i : ℕ) (k : K) (v : W) → occupied-get M m i k ≡ ok v → f .look k ≡ some v
   occupied-reads i k v e =
       let (l, c) = grip-live M m k i v (occupied-grip M m k i v e) in
-      sym (s .looks k) ∙ sound-look (M .keys) (M .size m) (M .home m) (home-below M L m (s .healthy)) (M .slots m) (s .healthy .sound) k i v l c
+      sym (s .looks k) ∙ sound-look (M .keys) (M .size m) (M .home m) (home-below M L m (s .soundTable)) (M .slots m) (s .soundTable .sound) k i v l c
 
   -- its set maps the key to the new value
   pub occupied-set-map : (i : ℕ) (k : K) (v w : W) → occupied-get M m i k ≡ ok w → Shows M (after-set M m i k v) (insert (M .keys) f k v)
@@ -366,18 +366,18 @@ module _ {K W : Type 0} (M : Store K W) (L : Lawful M) (m : M .State) (f : Finit
   unfolding after-set acted need occupied-get
   occupied-set-read i k v w e =
       let (l, c) = grip-live M m k i w (occupied-grip M m k i w e) in
-      let o = L .over-wrote m i k v w (s .healthy .sized) (s .healthy .good) l c in
-      rw e (occupied-good M (M .over m i v) i k v (o .sized ∙ s .healthy .sized) (asked-none e) .1 (rw (o .size) l, ap (λ t. t i) (o .slots) ∙ put-same (M .slots m) i (live k v)))
+      let o = L .over-wrote m i k v w (s .soundTable .sized) (s .soundTable .good) l c in
+      rw e (occupied-good M (M .over m i v) i k v (o .sized ∙ s .soundTable .sized) (asked-none e) .1 (rw (o .size) l, ap (λ t. t i) (o .slots) ∙ put-same (M .slots m) i (live k v)))
     where
       asked-none : occupied-get M m i k ≡ ok w → M .asked k ≡ 0
-      asked-none q = pass-ok (M .asked k) (grip M m i k) w (need-ok (M .sized m) 1 (pass (M .asked k) (grip M m i k)) w q .1) .0
+      asked-none q = pass-ok (M .asked k) (heldAt M m i k) w (need-ok (M .sized m) 1 (pass (M .asked k) (heldAt M m i k)) w q .1) .0
 
   -- its remove answers the map's value and takes the key out
   pub occupied-remove-map : (i : ℕ) (k : K) (w : W) → occupied-remove M m i k ≡ ok w → (f .look k ≡ some w) × Shows M (after-drop M m i k) (remove (M .keys) f k)
   unfolding after-drop acted
   occupied-remove-map i k w e =
       let (l, c) = grip-live M m k i w (removed-grip M m k i w e) in
-      (sym (s .looks k) ∙ sound-look (M .keys) (M .size m) (M .home m) (home-below M L m (s .healthy)) (M .slots m) (s .healthy .sound) k i w l c, rw e (drop-shows M L m f s i k w e))
+      (sym (s .looks k) ∙ sound-look (M .keys) (M .size m) (M .home m) (home-below M L m (s .soundTable)) (M .slots m) (s .soundTable .sound) k i w l c, rw e (drop-shows M L m f s i k w e))
 
   -- is_empty says whether the map has no key
   pub is-empty-is : tells M m empties ≡ truth (eqb (len f) 0)
@@ -410,7 +410,7 @@ module _ {K W : Type 0} (M : Store K W) (L : Lawful M) (m : M .State) (f : Finit
   -- get says of a key what the map says, in both directions: found with its value, or absent
   pub get-looks : (k : K) → lookupOf (get M m k) ≡ pass (M .asked k) (ok (f .look k))
   unfolding get need pass lookupOf seenFor
-  get-looks k = rw (s .healthy .sized, seen-is M L m f s k) (seen-said M m k (M .asked k) (f .look k))
+  get-looks k = rw (s .soundTable .sized, seen-is M L m f s k) (seen-said M m k (M .asked k) (f .look k))
 
   -- what get says is so in the map: found with that value, or absent
   pub get-found-map : (k : K) (v : W) (i e : ℕ) → get M m k ≡ ok (found v i e) → f .look k ≡ some v
@@ -424,7 +424,7 @@ module _ {K W : Type 0} (M : Store K W) (L : Lawful M) (m : M .State) (f : Finit
   -- and so it is with remove
   pub remove-looks : (k : K) → lookupOf (Calls.remove M m k) ≡ pass (M .asked k) (ok (f .look k))
   unfolding Calls.remove need pass lookupOf seenFor
-  remove-looks k = rw (s .healthy .sized, shows-unharmed M L m f s, seen-is M L m f s k) (seen-said M m k (M .asked k) (f .look k))
+  remove-looks k = rw (s .soundTable .sized, shows-unharmed M L m f s, seen-is M L m f s k) (seen-said M m k (M .asked k) (f .look k))
 
   pub remove-found-map : (k : K) (v : W) (i e : ℕ) → Calls.remove M m k ≡ ok (found v i e) → f .look k ≡ some v
   unfolding lookupOf
@@ -453,7 +453,7 @@ module _ {K W : Type 0} (M : Store K W) (L : Lawful M) (m : M .State) (f : Finit
   entry-of k y = go (path-of M L m f s k)
     where
       told : entry M m k ≡ spotBy M m k (path M m k)
-      told = entry-clear M m k (s .healthy .sized) y (shows-unharmed M L m f s)
+      told = entry-clear M m k (s .soundTable .sized) y (shows-unharmed M L m f s)
 
       go : PathOf M L m f s k → EntryOf M m f k
       go (here n v p e l q) = is-occupied (slotAt M m k n) v e q (told ∙ rw p (ap (λ x. ok (occupied (slotAt M m k n) v x)) (sym (hit-examined (M .keys) (M .size m) (M .home m k) (M .slots m) k n v p))))
@@ -462,7 +462,7 @@ module _ {K W : Type 0} (M : Store K W) (L : Lawful M) (m : M .State) (f : Finit
           by-bool (leb (M .weight k) (M .bytes m - used M m))
           (λ b. is-vacant (slotAt M m k (freeAt (M .size m) (M .home m k) (M .slots m))) e c (omega (arith, leb-true (M .weight k) (M .bytes m - used M m) b, used-mass M L m f s, used-high M L m f s)) (told ∙ rw (p, x, b)))
           (λ b. is-tight e c (omega (arith, leb-false (M .weight k) (M .bytes m - used M m) b, used-mass M L m f s, used-high M L m f s)) (told ∙ rw (p, x, b))))
-          (λ l x. is-full e (sym (live-len M L m f s) ∙ no-free-is-full M L m k (pathLength M m k) (freeAt (M .size m) (M .home m k) (M .slots m)) (s .healthy .sized) p .0 (omega (arith, free-high (M .size m) (M .home m k) (M .slots m)))) (told ∙ rw (p, x)))
+          (λ l x. is-full e (sym (live-len M L m f s) ∙ no-free-is-full M L m k (pathLength M m k) (freeAt (M .size m) (M .home m k) (M .slots m)) (s .soundTable .sized) p .0 (omega (arith, free-high (M .size m) (M .home m k) (M .slots m)))) (told ∙ rw (p, x)))
 
   -- insert is refused exactly when the key is absent and every slot is live (7), or else its bytes do not fit (8)
   pub insert-refused : (k : K) (n : ℕ) → M .kept k ≡ 0 → (entry M m k ≡ no n) ↔ ((f .look k ≡ none) × (((n ≡ 7) × (len f ≡ M .size m)) ⊎ ((n ≡ 8) × (len f < M .size m) × (M .bytes m < mass (M .weight) (f .dom) + M .weight k))))
@@ -517,22 +517,22 @@ first-calm (goes-on q f) (other-number h c) e = first-calm f c e
 first-calm (goes-on q f) (no-damage h c) e = first-calm f c e
 
 module _ {K W : Type 0} (M : Store K W) (L : Lawful M) (asked-else : (k : K) → M .asked k ≡ 5 → ⊥) (kept-else : (k : K) → M .kept k ≡ 5 → ⊥) where
-  module _ (m : M .State) (h : Healthy M m) where
-    no-bad-somewhere : BadSomewhere M m → ⊥
+  module _ (m : M .State) (h : SoundTable M m) where
+    no-bad-somewhere : DamagedSomewhere M m → ⊥
     no-bad-somewhere (i, l, e) = h .sound .whole i l e
 
-    no-bad-on-path : (k : K) → BadOnPath M m k → ⊥
+    no-bad-on-path : (k : K) → DamagedOnPath M m k → ⊥
     unfolding pathLength slotAt
     no-bad-on-path k (j, l, e) = h .sound .whole (slotAt M m k j) (at-below (M .size m) (M .home m k) j (home-below M L m h k) (omega (arith, examined-high (M .keys) (M .size m) (M .home m k) (M .slots m) k))) e
 
-    no-harm : M .harmed m ≡ true → ⊥
+    no-harm : M .damagedFully m ≡ true → ⊥
     no-harm e = let q = L .unharmed m (h .sized) (h .good) (h .sound) in clash cc
 
-    no-harm-on-path : (k : K) → (M .harmed m ≡ true) ⊎ BadOnPath M m k → ⊥
+    no-harm-on-path : (k : K) → (M .damagedFully m ≡ true) ⊎ DamagedOnPath M m k → ⊥
     no-harm-on-path k (inl e) = no-harm e
     no-harm-on-path k (inr b) = no-bad-on-path k b
 
-    not-bad-at : (i : ℕ) → (i < M .size m) × (M .slots m i ≡ bad) → ⊥
+    not-bad-at : (i : ℕ) → (i < M .size m) × (M .slots m i ≡ damaged) → ⊥
     not-bad-at i (l, e) = h .sound .whole i l e
 
     sized-calm : Calm (sized-rows M m)
@@ -553,7 +553,7 @@ module _ {K W : Type 0} (M : Store K W) (L : Lawful M) (asked-else : (k : K) →
     open-calm : (i : ℕ) (k : K) → Calm (open-rows M m i k)
     open-calm i k = other (λ e. omega arith) (other (kept-else k) (whole (no-harm-on-path k) (other (λ e. omega arith) calm-end)))
 
-  calm : (w : World M) → ((y : ℕ) → Healthy M (w y)) → (x : ℕ) (c : Call K W) → Calm (rows M w x c)
+  calm : (w : World M) → ((y : ℕ) → SoundTable M (w y)) → (x : ℕ) (c : Call K W) → Calm (rows M w x c)
   calm w h x (own makes) = sized-calm (w x) (h x)
   calm w h x (own clears) = sized-calm (w x) (h x)
   calm w h x (own capacities) = sized-calm (w x) (h x)
@@ -578,7 +578,7 @@ module _ {K W : Type 0} (M : Store K W) (L : Lawful M) (asked-else : (k : K) →
   calm w h x (steps a b) = other (λ e. omega arith) (other (λ e. omega arith) (other (λ e. omega arith) (whole (λ (j, u, l, v, q, r). h x .sound .whole j l q) calm-end)))
 
   -- a sound table never answers 5, whatever the call (where a key itself is not refused with 5)
-  pub sound-never-5 : (w : World M) → ((y : ℕ) → Healthy M (w y)) → (x : ℕ) (c : Call K W) → refusal (answer M w x c) ≡ 5 → ⊥
+  pub sound-never-5 : (w : World M) → ((y : ℕ) → SoundTable M (w y)) → (x : ℕ) (c : Call K W) → refusal (answer M w x c) ≡ 5 → ⊥
   sound-never-5 w h x c e = first-calm (demand-1 M (L .homes) w x c) (calm w h x c) e
 
 module _ {K W : Type 0} (M : Store K W) where
@@ -617,7 +617,7 @@ module _ {K W : Type 0} (M : Store K W) where
 
 -- A step of a walk, on any memory.
 module _ {K W : Type 0} (M : Store K W) (m : M .State) (a b : ℕ) where
-  strode-from : (p : Paced K W) → stepping M m a b ≡ ok p → Strode (M .size m) (M .slots m) a b p
+  strode-from : (p : StepAnswer K W) → stepping M m a b ≡ ok p → Strode (M .size m) (M .slots m) a b p
   unfolding stepping
   strode-from p e = strode (M .size m) (M .slots m) a 0 b p (need-ok (M .sized m) 1 (step (M .size m) (M .slots m) 0 a b) p e .1)
 

@@ -5,12 +5,12 @@ use mathlib.Core.Path.{_≡_, refl, sym, _∙_, ap}
 use native.Mathlib.Omega.{arith}
 use borrow.Author.Tests.{ne-eqb}
 use lib.Dec.{ltb, leb, eqb}
-use Rattle.model.specs.Slots.{Slot, never, freed, bad, live}
-use Rattle.model.specs.Path.{Find, hit, miss, hurt, from}
+use Rattle.model.specs.Slots.{Slot, never, freed, damaged, live}
+use Rattle.model.specs.Path.{Find, hit, miss, damage, from}
 use Rattle.model.specs.Store.{Store, path, used}
-use Rattle.model.specs.Calls.{Or, no, ok, need, pass, give, Spot, occupied, vacant, on-occupied, on-vacant, seenBy, spotBy, get, entry, remove, capacity, length, reserve, copy, union, gripOn, grip, occupied-get, occupied-remove, goodFor, vacancy, vacant-insert, or-insert, insert-entry}
-use Rattle.model.specs.Walk.{halts, halted, reachOf, paceTo, pace, step}
-use Rattle.model.specs.Machine.{makes, clears, capacities, lens, empties, reserves, gets, contains-keys, removes, entries, inserts, occupied-gets, occupied-removes, occupied-sets, vacant-inserts, or-inserts, insert-entries, Call, own, copies, unions, steps, Answer, fine, number, truth, seen, spot, value, paced, report, World, tells, stepping, answer}
+use Rattle.model.specs.Calls.{Or, no, ok, need, pass, give, Spot, occupied, vacant, on-occupied, on-vacant, seenBy, spotBy, get, entry, remove, capacity, length, reserve, copy, union, heldOn, heldAt, occupied-get, occupied-remove, goodFor, vacancy, vacant-insert, or-insert, insert-entry}
+use Rattle.model.specs.Walk.{halts, halted, reachOf, stepWithin, pace, step}
+use Rattle.model.specs.Machine.{makes, clears, capacities, lens, empties, reserves, gets, contains-keys, removes, entries, inserts, occupied-gets, occupied-removes, occupied-sets, vacant-inserts, or-inserts, insert-entries, Call, own, copies, unions, steps, Answer, fine, number, truth, seen, spot, value, stepped, report, World, tells, stepping, answer}
 use Rattle.model.specs.Demand1.{refusal}
 use Rattle.model.specs.Demand2.{refuses}
 use Rattle.model.proofs.Cases.{by-bool}
@@ -41,7 +41,7 @@ module _ {K W : Type 0} where
   unfolding halted
   halted-numbered w j never = numbered-ok _
   halted-numbered w j freed = numbered-ok _
-  halted-numbered w j bad = numbered-no 4
+  halted-numbered w j damaged = numbered-no 4
   halted-numbered w j (live a v) = numbered-ok _
 
 module _ {K W : Type 0} (M : Store K W) where
@@ -49,19 +49,19 @@ module _ {K W : Type 0} (M : Store K W) where
   unfolding seenBy
   seen-numbered m k (hit n v) = numbered-ok _
   seen-numbered m k (miss e f) = numbered-ok _
-  seen-numbered m k hurt = numbered-no 4
+  seen-numbered m k damage = numbered-no 4
 
   spot-numbered : (m : M .State) (k : K) (r : Find W) → Numbered (spotBy M m k r)
   unfolding spotBy
   spot-numbered m k (hit n v) = numbered-ok _
   spot-numbered m k (miss e f) = by-need (ltb f (M .size m)) 6 _ (by-need (leb (M .weight k) (M .bytes m - used M m)) 7 _ (numbered-ok _))
-  spot-numbered m k hurt = numbered-no 4
+  spot-numbered m k damage = numbered-no 4
 
-  grips-numbered : (k : K) (s : Slot K W) → Numbered (gripOn M k s)
-  unfolding gripOn
+  grips-numbered : (k : K) (s : Slot K W) → Numbered (heldOn M k s)
+  unfolding heldOn
   grips-numbered k never = numbered-no 5
   grips-numbered k freed = numbered-no 5
-  grips-numbered k bad = numbered-no 4
+  grips-numbered k damaged = numbered-no 4
   grips-numbered k (live a v) = by-need (M .keys .same k a) 5 _ (numbered-ok v)
 
   good-numbered : (s : ℕ) (a : Or (Spot W)) → Numbered (goodFor M s a)
@@ -72,16 +72,16 @@ module _ {K W : Type 0} (M : Store K W) where
 
   module _ (m : M .State) where
     held-numbered : (s : ℕ) (k : K) → Numbered (occupied-get M m s k)
-    unfolding occupied-get grip
+    unfolding occupied-get heldAt
     held-numbered s k = by-need (M .sized m) 0 _ (by-pass (M .asked k) _ (by-need (ltb s (M .size m)) 5 _ (grips-numbered k (M .slots m s))))
 
     taken-numbered : (s : ℕ) (k : K) → Numbered (occupied-remove M m s k)
-    unfolding occupied-remove grip
-    taken-numbered s k = by-need (M .sized m) 0 _ (by-pass (M .asked k) _ (by-need (not (M .harmed m)) 4 _ (by-need (ltb s (M .size m)) 5 _ (grips-numbered k (M .slots m s)))))
+    unfolding occupied-remove heldAt
+    taken-numbered s k = by-need (M .sized m) 0 _ (by-pass (M .asked k) _ (by-need (not (M .damagedFully m)) 4 _ (by-need (ltb s (M .size m)) 5 _ (grips-numbered k (M .slots m s)))))
 
     filled-numbered : (s : ℕ) (k : K) (v : W) → Numbered (vacant-insert M m s k v)
     unfolding vacant-insert vacancy
-    filled-numbered s k v = by-give v _ (by-need (M .sized m) 0 _ (by-pass (M .kept k) _ (by-need (not (M .harmed m)) 4 _ (good-numbered s (spotBy M m k (path M m k))))))
+    filled-numbered s k v = by-give v _ (by-need (M .sized m) 0 _ (by-pass (M .kept k) _ (by-need (not (M .damagedFully m)) 4 _ (good-numbered s (spotBy M m k (path M m k))))))
 
     capacity-numbered : Numbered (capacity M m)
     unfolding capacity
@@ -97,18 +97,18 @@ module _ {K W : Type 0} (M : Store K W) where
 
     pub remove-numbered : (k : K) → Numbered (remove M m k)
     unfolding remove
-    remove-numbered k = by-need (M .sized m) 0 _ (by-pass (M .asked k) _ (by-need (not (M .harmed m)) 4 _ (seen-numbered m k (path M m k))))
+    remove-numbered k = by-need (M .sized m) 0 _ (by-pass (M .asked k) _ (by-need (not (M .damagedFully m)) 4 _ (seen-numbered m k (path M m k))))
 
     pub entry-numbered : (k : K) → Numbered (entry M m k)
     unfolding entry
-    entry-numbered k = by-need (M .sized m) 0 _ (by-pass (M .kept k) _ (by-need (not (M .harmed m)) 4 _ (spot-numbered m k (path M m k))))
+    entry-numbered k = by-need (M .sized m) 0 _ (by-pass (M .kept k) _ (by-need (not (M .damagedFully m)) 4 _ (spot-numbered m k (path M m k))))
 
     reserve-numbered : (n : ℕ) → Numbered (reserve M m n)
     unfolding reserve
     reserve-numbered n = by-need (M .sized m) 0 _ (by-need _ 4 _ (by-need _ 6 _ (numbered-ok _)))
 
     pub step-numbered : (a b : ℕ) → Numbered (stepping M m a b)
-    unfolding stepping step pace paceTo
+    unfolding stepping step pace stepWithin
     step-numbered a b = by-need (M .sized m) 0 _ (by-need (not (eqb b 0)) 2 _ (by-need (leb a (M .size m)) 3 _ (by-pass 0 _ (by-bool (eqb a (M .size m)) (λ e. rw e (numbered-ok _))
         (λ e. rw e (by-bool (ltb (from (λ i. halts (M .slots m i)) (reachOf (M .size m) a b) a) (a + reachOf (M .size m) a b)) (λ d. rw d (halted-numbered a _ _)) (λ d. rw d (numbered-ok _))))))))
 
@@ -145,4 +145,4 @@ module _ {K W : Type 0} (M : Store K W) where
   told-refused w x (own (insert-entries (on-vacant s) k v)) = reports value (λ a. (refl, refl)) _ (filled-numbered (w x) s k v)
   told-refused w x (copies y) = reports (λ u. fine) (λ a. (refl, refl)) _ (by-need _ 0 _ (by-need _ 0 _ (by-need _ 0 _ (by-need _ 0 _ (numbered-ok _)))))
   told-refused w x (unions y) = reports (λ u. fine) (λ a. (refl, refl)) _ (union-numbered (w x) (w y))
-  told-refused w x (steps a b) = reports paced (λ a. (refl, refl)) _ (step-numbered (w x) a b)
+  told-refused w x (steps a b) = reports stepped (λ a. (refl, refl)) _ (step-numbered (w x) a b)

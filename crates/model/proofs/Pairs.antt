@@ -5,7 +5,7 @@ use mathlib.Core.List.{List, [], _∷_, _++_}
 use mathlib.Core.Path.{_≡_, refl, sym, _∙_, ap}
 use mathlib.Core.Option.{Option, none, some}
 use native.Mathlib.Omega.{arith}
-use Rattle.model.specs.Slots.{Slot, never, freed, bad, live, Table, Keys, weigh, total, pairOf, pairs, valueIn, look}
+use Rattle.model.specs.Slots.{Slot, never, freed, damaged, live, Table, Keys, weigh, total, pairOf, pairs, valueIn, look}
 use Rattle.model.specs.Finite.{Finite, isSome, orElse, contains, mass, insert, firsts, lastIn, insertAll}
 use Rattle.model.proofs.Cases.{by-bool}
 
@@ -36,7 +36,7 @@ module _ {K W : Type 0} (E : Keys K) where
   unfolding lastIn pairOf valueIn orElse
   last-pair a never o = refl
   last-pair a freed o = refl
-  last-pair a bad o = refl
+  last-pair a damaged o = refl
   last-pair a (live b v) o = by-bool (E .same a b) (λ e. rw e) (λ e. rw e)
 
   -- the last pair of a key among a table's pairs is the key's value in the table's map
@@ -63,7 +63,7 @@ module _ {K W : Type 0} (g : K → ℕ) where
   unfolding mass firsts pairOf weigh
   pair-weigh never = refl
   pair-weigh freed = refl
-  pair-weigh bad = refl
+  pair-weigh damaged = refl
   pair-weigh (live a v) = omega arith
 
   -- a table's totals are those of its pairs

@@ -7,8 +7,8 @@ use mathlib.Core.Path.{_≡_, refl, sym, _∙_, ap, subst}
 use native.Mathlib.Omega.{arith}
 use borrow.Author.Tests.{lt-ltb, le-ltb}
 use lib.Dec.{ltb}
-use Rattle.model.specs.Slots.{Slot, never, freed, bad, live, Table, Keys, frees}
-use Rattle.model.specs.Path.{from, at, stops, Find, hit, miss, hurt, ends, stopAt, freeAt, find, firstFree, onSlot, probe, examined}
+use Rattle.model.specs.Slots.{Slot, never, freed, damaged, live, Table, Keys, frees}
+use Rattle.model.specs.Path.{from, at, stops, Find, hit, miss, damage, ends, stopAt, freeAt, find, firstFree, onSlot, probe, examined}
 use Rattle.model.proofs.Cases.{by-bool, by-lt, clash}
 
 pub from-low : (f : ℕ → Bool) (g n : ℕ) → n ≤ from f g n
@@ -69,14 +69,14 @@ at-place S h i a b = by-lt i h
 -- at a slot that stops the path and is no hit, or is one
 data Stopped {K W : Type 0} (E : Keys K) (k : K) (s : Slot K W) : Type 0 where
   on-never : s ≡ never → Stopped E k s
-  on-bad : s ≡ bad → Stopped E k s
+  on-bad : s ≡ damaged → Stopped E k s
   on-live : (v : W) → s ≡ live k v → Stopped E k s
 
 stopped : {K W : Type 0} (E : Keys K) (k : K) (s : Slot K W) → stops E k s ≡ true → Stopped E k s
 unfolding stops
 stopped E k never e = on-never refl
 stopped E k freed e = let z : _≡_ {A = Bool} true false = cc in on-never cc
-stopped E k bad e = on-bad refl
+stopped E k damaged e = on-bad refl
 stopped E k (live a v) e = on-live v (ap (λ b. live b v) (sym (E .right k a e)))
 
 module _ {K W : Type 0} (E : Keys K) (S h : ℕ) (t : Table K W) (k : K) where
@@ -101,7 +101,7 @@ module _ {K W : Type 0} (E : Keys K) (S h : ℕ) (t : Table K W) (k : K) where
     ended-hit : (n : ℕ) (v : W) → n ≡ stopAt E S h t k → n < S → t (at S h n) ≡ live k v → Ended (hit n v)
     ended-never : (n : ℕ) → n ≡ stopAt E S h t k → n < S → t (at S h n) ≡ never → Ended (miss (suc n) (freeAt S h t))
     ended-round : stopAt E S h t k ≡ S → Ended (miss S (freeAt S h t))
-    ended-bad : (n : ℕ) → n ≡ stopAt E S h t k → n < S → t (at S h n) ≡ bad → Ended hurt
+    ended-bad : (n : ℕ) → n ≡ stopAt E S h t k → n < S → t (at S h n) ≡ damaged → Ended damage
 
   pub find-ended : Ended (find E S h t k)
   unfolding find ends
@@ -142,10 +142,10 @@ module _ {K W : Type 0} (E : Keys K) (S h : ℕ) (t : Table K W) (k : K) where
       go e f (ended-never n x l p) = rw (← x, lt-ltb n S l)
       go e f (ended-round x) = rw (x, le-ltb S S (omega arith))
 
-  pub hurt-at : find E S h t k ≡ hurt → (n : ℕ) × (n < S) × (t (at S h n) ≡ bad)
+  pub hurt-at : find E S h t k ≡ damage → (n : ℕ) × (n < S) × (t (at S h n) ≡ damaged)
   hurt-at e = go (subst Ended e find-ended)
     where
-      go : Ended hurt → (n : ℕ) × (n < S) × (t (at S h n) ≡ bad)
+      go : Ended damage → (n : ℕ) × (n < S) × (t (at S h n) ≡ damaged)
       go (ended-bad n q l p) = (n, l, p)
 
   -- a path that found nothing and no free slot went round
@@ -180,7 +180,7 @@ module _ {K W : Type 0} (E : Keys K) (S h : ℕ) (t : Table K W) (k : K) where
       let q : stopAt E S h t k ≡ n = stop-unique n (omega arith) b (λ x. rw p) in
       rw (q, lt-ltb n S l, p)
 
-  pub find-bad : (n : ℕ) → n < S → t (at S h n) ≡ bad → ((m : ℕ) → m < n → stops E k (t (at S h m)) ≡ false) → find E S h t k ≡ hurt
+  pub find-bad : (n : ℕ) → n < S → t (at S h n) ≡ damaged → ((m : ℕ) → m < n → stops E k (t (at S h m)) ≡ false) → find E S h t k ≡ damage
   unfolding find ends stops
   find-bad n l p b =
       let q : stopAt E S h t k ≡ n = stop-unique n (omega arith) b (λ x. rw p) in
@@ -251,7 +251,7 @@ module _ {K W : Type 0} (E : Keys K) (S h : ℕ) (t : Table K W) (k : K) where
   unfolding onSlot stops frees
   probe-slot n f l b s rest next never e = rw (find-never E S h t k n l e b, sofar-end n f (omega arith) s (rw e) l)
   probe-slot n f l b s rest next freed e = next (firstFree S f n) (rw e) (sofar-freed n f l s (rw e))
-  probe-slot n f l b s rest next bad e = rw (find-bad E S h t k n l e b)
+  probe-slot n f l b s rest next damaged e = rw (find-bad E S h t k n l e b)
   probe-slot n f l b s rest next (live a v) e = by-bool (E .same k a)
       (λ p. rw p (rw (find-hit E S h t k n v l (e ∙ ap (λ c. live c v) (sym (E .right k a p))) b)))
       (λ p. rw p (next f (rw e p) (sofar-live n f s (rw e))))

@@ -7,7 +7,7 @@ use native.Mathlib.Omega.{arith}
 use borrow.Author.Tests.{lt-ltb}
 use Rattle.model.proofs.Cases.{neither, clash}
 use Rattle.model.specs.Slots.{pairs}
-use Rattle.model.specs.Path.{Find, hit, miss, hurt}
+use Rattle.model.specs.Path.{Find, hit, miss, damage}
 use Rattle.model.specs.Store.{Store, path, slotAt}
 use Rattle.model.specs.Calls.{Or, no, ok, need, pass, Seen, found, absent, Spot, occupied, vacant, on-occupied, on-vacant, entry, storedBy, after-insert, remove, removedBy, after-remove, acted, capacity, after-make, copy, after-copy, ruleBy, rule, storeAll, union, after-union, occupied-get, after-set, occupied-remove, after-drop, vacancy, after-fill, after-or-insert, after-insert-entry, spotBy, seenBy}
 use Rattle.model.specs.Machine.{Own, makes, clears, capacities, lens, empties, reserves, gets, contains-keys, removes, entries, inserts, occupied-gets, occupied-removes, occupied-sets, vacant-inserts, or-inserts, insert-entries, own, copies, unions, steps, leaves, left}
@@ -24,12 +24,12 @@ not-false false e = refl
 
 module _ {K W : Type 0} (M : Store K W) (P : Places M) (A : Apart M P) (T : Steady M) (p : P .Place) where
   -- a storing call's tests passed
-  passed : {B : Type 0} (m : M .State) (n : ℕ) (a : Or B) (x : B) → need (M .sized m) 1 (pass n (need (not (M .harmed m)) 5 a)) ≡ ok x → (M .sized m ≡ true) × (M .harmed m ≡ false)
+  passed : {B : Type 0} (m : M .State) (n : ℕ) (a : Or B) (x : B) → need (M .sized m) 1 (pass n (need (not (M .damagedFully m)) 5 a)) ≡ ok x → (M .sized m ≡ true) × (M .damagedFully m ≡ false)
   passed m n a x e =
-      let (s, r) = need-ok (M .sized m) 1 (pass n (need (not (M .harmed m)) 5 a)) x e in
-      (s, not-false (M .harmed m) (need-ok (not (M .harmed m)) 5 a x (pass-ok n (need (not (M .harmed m)) 5 a) x r .1) .0))
+      let (s, r) = need-ok (M .sized m) 1 (pass n (need (not (M .damagedFully m)) 5 a)) x e in
+      (s, not-false (M .damagedFully m) (need-ok (not (M .damagedFully m)) 5 a x (pass-ok n (need (not (M .damagedFully m)) 5 a) x r .1) .0))
 
-  fill-kept : (m : M .State) (s e : ℕ) (k : K) (v : W) → M .sized m ≡ true → M .harmed m ≡ false → spotBy M m k (path M m k) ≡ ok (vacant s e) → P .fill-names m s k p ≡ false → P .word (M .fill m s k v) p ≡ P .word m p
+  fill-kept : (m : M .State) (s e : ℕ) (k : K) (v : W) → M .sized m ≡ true → M .damagedFully m ≡ false → spotBy M m k (path M m k) ≡ ok (vacant s e) → P .fill-names m s k p ≡ false → P .word (M .fill m s k v) p ≡ P .word m p
   unfolding slotAt
   fill-kept m s e k v z h q d =
       let (f, a, i, l, b) = spot-vacant M m k s e q in
@@ -107,7 +107,7 @@ module _ {K W : Type 0} (M : Store K W) (P : Places M) (A : Apart M P) (T : Stea
   rule-kept m k v ps r (miss e f) q d =
       let l = lt-ltb f (M .size m) (slot-left M T m k v ps r e f q) in
       rw l (A .fill-apart m (slotAt M m k f) k v p (r .sized) (r .unharmed) (free-slot M T m k v ps r e f q .0) (bytes-there M T m k v ps r e f q) (rw l at d))
-  rule-kept m k v ps r hurt q d = refl
+  rule-kept m k v ps r damage q d = refl
 
   union-kept : (ps : List (K × W)) (m : M .State) → Roomy M m ps → all-names M P p m ps ≡ false → P .word (storeAll M m ps) p ≡ P .word m p
   unfolding all-names storeAll rule

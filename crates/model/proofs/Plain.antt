@@ -3,7 +3,7 @@ use Prim.Native.Nat.{ℕ, _≤_, _<_}
 use mathlib.Core.Path.{_≡_, refl, ap}
 use native.Mathlib.Omega.{arith}
 use borrow.Author.Tests.{ltb-true, lt-ltb, le-ltb}
-use Rattle.model.specs.Slots.{Slot, never, freed, bad, live, Table, Keys, put, made, frees, weigh, total}
+use Rattle.model.specs.Slots.{Slot, never, freed, damaged, live, Table, Keys, put, made, frees, weigh, total}
 use Rattle.model.specs.Store.{used}
 use Rattle.model.specs.Finite.{mass, len, empty}
 use Rattle.model.specs.Calls.{ok, need, found, get, after-insert, acted, capacity, after-make}
@@ -20,7 +20,7 @@ pub revalued-dead : {K W : Type 0} (s : Slot K W) (v : W) → ((a : K) (w : W) �
 unfolding revalued
 revalued-dead never v h = refl
 revalued-dead freed v h = refl
-revalued-dead bad v h = refl
+revalued-dead damaged v h = refl
 revalued-dead (live a w) v h = absurd (h a w refl)
 
 module _ {K W : Type 0} (E : Keys K) (weight : K → ℕ) where

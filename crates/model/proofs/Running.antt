@@ -6,11 +6,11 @@ use mathlib.Core.Path.{_≡_, refl, sym, _∙_, ap, subst}
 use native.Mathlib.Omega.{arith}
 use borrow.Author.Tests.{lt-ltb, le-leb, leb-true}
 use lib.Dec.{leb}
-use Rattle.model.specs.Slots.{Slot, never, freed, bad, live, Table, Keys, put, frees, weigh, total, pairs}
-use Rattle.model.specs.Path.{Find, hit, miss, hurt, at, stops, find}
+use Rattle.model.specs.Slots.{Slot, never, freed, damaged, live, Table, Keys, put, frees, weigh, total, pairs}
+use Rattle.model.specs.Path.{Find, hit, miss, damage, at, stops, find}
 use Rattle.model.specs.Finite.{mass, firsts}
-use Rattle.model.specs.Store.{Store, path, slotAt, live-count, used, hurtful}
-use Rattle.model.specs.Calls.{ok, need, Spot, occupied, vacant, spotBy, ruleBy, rule, missed, lacking, needs, ruined, union}
+use Rattle.model.specs.Store.{Store, path, slotAt, live-count, used, damagedSlots}
+use Rattle.model.specs.Calls.{ok, need, Spot, occupied, vacant, spotBy, ruleBy, rule, missed, lacking, needs, anyDamage, union}
 use Rattle.model.specs.Lawful.{Wrote, Steady}
 use Rattle.model.specs.Running.{Running}
 use Rattle.model.proofs.Cases.{by-bool, by-lt, by-eq, by-same, clash}
@@ -83,24 +83,24 @@ module _ {K W : Type 0} (M : Store K W) where
   unfolding missed
   missed-hit (hit n w) e = (n, w, refl)
   missed-hit (miss e f) q = clash cc
-  missed-hit hurt q = clash cc
+  missed-hit damage q = clash cc
 
   free-weighs : (g : K → ℕ) (s : Slot K W) → frees s ≡ true → weigh g s ≡ 0
   unfolding frees weigh
   free-weighs g never e = refl
   free-weighs g freed e = refl
-  free-weighs g bad e = clash cc
+  free-weighs g damaged e = clash cc
   free-weighs g (live a w) e = clash cc
 
   -- a memory with no damage that has room for what it lacks of the pairs
   pub record Roomy (m : M .State) (ps : List (K × W)) : Type 0 where
     pub sized : M .sized m ≡ true
-    pub unharmed : M .harmed m ≡ false
-    pub unhurt : hurtful M m ≡ false
+    pub unharmed : M .damagedFully m ≡ false
+    pub unhurt : damagedSlots M m ≡ false
     pub slots-left : live-count M m + mass (λ k. cond (lacking M m k) 1 0) (firsts ps) ≤ M .size m
     pub bytes-left : used M m + mass (λ k. cond (lacking M m k) (M .weight k) 0) (firsts ps) ≤ M .bytes m
 
-  module _ (T : Steady M) (m n : M .State) (i : ℕ) (k : K) (v : W) (l : i < M .size m) (z : M .sized m ≡ true) (own : (a : K) (w : W) → M .slots m i ≡ live a w → a ≡ k) (wrote : Wrote M (λ x. M .harmed x ≡ false) m n (put (M .slots m) i (live k v))) where
+  module _ (T : Steady M) (m n : M .State) (i : ℕ) (k : K) (v : W) (l : i < M .size m) (z : M .sized m ≡ true) (own : (a : K) (w : W) → M .slots m i ≡ live a w → a ≡ k) (wrote : Wrote M (λ x. M .damagedFully x ≡ false) m n (put (M .slots m) i (live k v))) where
     path-wrote : (a : K) → path M n a ≡ find (M .keys) (M .size m) (M .home m a) (put (M .slots m) i (live k v)) a
     unfolding path
     path-wrote a = rw (wrote .slots, wrote .size, wrote .home)
@@ -118,11 +118,11 @@ module _ {K W : Type 0} (M : Store K W) where
         (λ e. by-bool (lacking M n a) (λ d. rw (e, d) (omega arith)) (λ d. rw (e, d) (omega arith)))
         (λ e. rw (e, lacks-less a e) (omega arith))) ks
 
-    unhurt-wrote : hurtful M m ≡ false → hurtful M n ≡ false
-    unfolding hurtful
+    unhurt-wrote : damagedSlots M m ≡ false → damagedSlots M n ≡ false
+    unfolding damagedSlots
     unhurt-wrote h = rw (wrote .slots, wrote .size) (damaged-not (put (M .slots m) i (live k v)) (M .size m) (λ j b e.
         by-put (M .slots m) i (live k v) j
-        (λ d q. let y : live k v ≡ bad = sym q ∙ e in clash cc)
+        (λ d q. let y : live k v ≡ damaged = sym q ∙ e in clash cc)
         (λ d q. let y : true ≡ false = sym (damaged-bad (M .slots m) (M .size m) j b (sym q ∙ e)) ∙ h in clash cc)))
 
     total-wrote : (g : K → ℕ) → total g (M .slots n) (M .size n) + weigh g (M .slots m i) ≡ total g (M .slots m) (M .size m) + g k
@@ -163,7 +163,7 @@ module _ {K W : Type 0} (M : Store K W) where
 
     -- what one pair does: it is taken, and there is still room for the rest
     pub one-more : (x : Find W) → path M m k ≡ x → ((s : Spot W) × (spotBy M m k x ≡ ok s)) × Roomy (ruleBy M m k v x) ps
-    unfolding spotBy ruleBy need lacking missed weigh hurtful path frees
+    unfolding spotBy ruleBy need lacking missed weigh damagedSlots path frees
     one-more (hit n w) q =
         let (l, p) = path-live M m k n w (T .homes m k (r .sized)) q in
         let wrote = T .over-steady m (slotAt M m k n) k v w (r .sized) (r .unharmed) l p in (
@@ -179,7 +179,7 @@ module _ {K W : Type 0} (M : Store K W) where
           (vacant (slotAt M m k f) e, refl),
           roomy-after T m _ _ k v c (r .sized) (λ a u x. let y : true ≡ false = sym d ∙ ap frees x in clash cc) wrote ps (λ g. rw (q, free-weighs g _ d) (omega arith)) r,
         )
-    one-more hurt q =
+    one-more damage q =
         let (n, l, p) = hurt-at (M .keys) (M .size m) (M .home m k) (M .slots m) k q in
         let y : true ≡ false = sym (damaged-bad (M .slots m) (M .size m) (at (M .size m) (M .home m k) n) (at-below (M .size m) (M .home m k) n (T .homes m k (r .sized)) l) p) ∙ r .unhurt in
         clash cc
@@ -196,15 +196,15 @@ module _ {K W : Type 0} (M : Store K W) where
 
   -- the left of an accepted union has room for the right's pairs
   pub union-roomy : Steady M → (l r : M .State) (u : Unit {0}) → union M l r ≡ ok u → Roomy l (pairs (M .slots r) (M .size r))
-  unfolding union needs ruined live-count
+  unfolding union needs anyDamage live-count
   union-roomy T l r u e =
       let (a, x) = need-ok (M .sized l) 1 _ u e in
       let y = need-ok (M .sized r) 1 _ u x .1 in
-      let (c, z) = need-ok (not (ruined M l)) 5 _ u y in
-      let d = need-ok (not (ruined M r)) 5 _ u z .1 in
+      let (c, z) = need-ok (not (anyDamage M l)) 5 _ u y in
+      let d = need-ok (not (anyDamage M r)) 5 _ u z .1 in
       let (f, g) = need-ok (leb (needs M (λ k. 1) l r) (M .size l - live-count M l)) 7 _ u d in
       let (h, i) = need-ok (leb (needs M (M .weight) l r) (M .bytes l - used M l)) 8 _ u g in
-      let (hu, ha) = both-false (hurtful M l) (M .harmed l) c in
+      let (hu, ha) = both-false (damagedSlots M l) (M .damagedFully l) c in
       record {
         sized = a;
         unharmed = ha;

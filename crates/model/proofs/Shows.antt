@@ -6,10 +6,10 @@ use mathlib.Core.Option.{Option, none, some}
 use native.Mathlib.Omega.{arith}
 use Rattle.model.specs.Slots.{freed, live, Table, Keys, put, made, holds, total, count, look}
 use Rattle.model.specs.Path.{hit, miss, at, freeAt}
-use Rattle.model.specs.Sound.{Sound}
+use Rattle.model.specs.Sound.{SoundSlots}
 use Rattle.model.specs.Finite.{Finite, isSome, contains, Proper, mass, empty, insert, remove}
-use Rattle.model.specs.Store.{Store, path, slotAt, pathLength, live-count, used, hurtful}
-use Rattle.model.specs.Lawful.{Wrote, Lawful, Healthy, Shows}
+use Rattle.model.specs.Store.{Store, path, slotAt, pathLength, live-count, used, damagedSlots}
+use Rattle.model.specs.Lawful.{Wrote, Lawful, SoundTable, Shows}
 use Rattle.model.proofs.Cases.{by-lt}
 use Rattle.model.proofs.Slots.{look-none, count-high, damaged-not}
 use Rattle.model.proofs.Path.{at-below, hit-at, free-here}
@@ -22,20 +22,20 @@ unfolding made holds
 made-look E S k = look-none E k made S (λ i l. refl)
 
 module _ {K W : Type 0} (M : Store K W) (L : Lawful M) where
-  pub home-below : (m : M .State) → Healthy M m → (k : K) → M .home m k < M .size m
+  pub home-below : (m : M .State) → SoundTable M m → (k : K) → M .home m k < M .size m
   home-below m h k = L .homes m k (h .sized)
 
   -- a write that leaves sound slots leaves a sound memory
-  wrote-healthy : (m n : M .State) (t : Table K W) → M .sized m ≡ true → Wrote M (M .good) m n t → Sound (M .size m) (M .home m) t → Healthy M n
+  wrote-healthy : (m n : M .State) (t : Table K W) → M .sized m ≡ true → Wrote M (M .good) m n t → SoundSlots (M .size m) (M .home m) t → SoundTable M n
   wrote-healthy m n t z w s = record {
     sized = w .sized ∙ z;
     good = w .good;
     sound = rw (w .slots, w .size, w .home) s;
   }
 
-  wrote-shows : (m n : M .State) (t : Table K W) (f : Finite K W) → M .sized m ≡ true → Wrote M (M .good) m n t → Sound (M .size m) (M .home m) t → ((k : K) → look (M .keys) t (M .size m) k ≡ f .look k) → Proper (M .keys) f → Shows M n f
+  wrote-shows : (m n : M .State) (t : Table K W) (f : Finite K W) → M .sized m ≡ true → Wrote M (M .good) m n t → SoundSlots (M .size m) (M .home m) t → ((k : K) → look (M .keys) t (M .size m) k ≡ f .look k) → Proper (M .keys) f → Shows M n f
   wrote-shows m n t f z w s e p = record {
-    healthy = wrote-healthy m n t z w s;
+    soundTable = wrote-healthy m n t z w s;
     looks = λ k. rw (w .slots, w .size) (e k);
     proper = p;
   }
@@ -48,32 +48,32 @@ module _ {K W : Type 0} (M : Store K W) (L : Lawful M) where
     -- the weights of the live keys are those of the map's keys
     pub shows-total : (g : K → ℕ) → total g (M .slots m) (M .size m) ≡ mass g (f .dom)
     unfolding contains
-    shows-total g = total-mass g (M .keys) (M .size m) (f .dom) (M .slots m) (s .healthy .sound .once) (s .proper .once) (λ k. s .proper .listed k ∙ ap (λ o. isSome o) (sym (s .looks k)))
+    shows-total g = total-mass g (M .keys) (M .size m) (f .dom) (M .slots m) (s .soundTable .sound .once) (s .proper .once) (λ k. s .proper .listed k ∙ ap (λ o. isSome o) (sym (s .looks k)))
 
     pub shows-over : (i : ℕ) (k : K) (v w : W) → i < M .size m → M .slots m i ≡ live k w → Shows M (M .over m i v) (insert (M .keys) f k v)
     unfolding insert
-    shows-over i k v w l e = wrote-shows m (M .over m i v) (put (M .slots m) i (live k v)) (insert (M .keys) f k v) (s .healthy .sized)
-        (L .over-wrote m i k v w (s .healthy .sized) (s .healthy .good) l e)
-        (replaced-sound (M .keys) (M .size m) (M .home m) (home-below m (s .healthy)) (M .slots m) (s .healthy .sound) k i v w l e)
-        (λ a. rw (replaced-look (M .keys) (M .size m) (M .home m) (home-below m (s .healthy)) (M .slots m) (s .healthy .sound) k i v w l e a, s .looks a))
+    shows-over i k v w l e = wrote-shows m (M .over m i v) (put (M .slots m) i (live k v)) (insert (M .keys) f k v) (s .soundTable .sized)
+        (L .over-wrote m i k v w (s .soundTable .sized) (s .soundTable .good) l e)
+        (replaced-sound (M .keys) (M .size m) (M .home m) (home-below m (s .soundTable)) (M .slots m) (s .soundTable .sound) k i v w l e)
+        (λ a. rw (replaced-look (M .keys) (M .size m) (M .home m) (home-below m (s .soundTable)) (M .slots m) (s .soundTable .sound) k i v w l e a, s .looks a))
         (insert-proper (M .keys) f k v (s .proper))
 
     pub shows-free : (i : ℕ) (k : K) (w : W) → i < M .size m → M .slots m i ≡ live k w → Shows M (M .free m i) (remove (M .keys) f k)
     unfolding remove
-    shows-free i k w l e = wrote-shows m (M .free m i) (put (M .slots m) i freed) (remove (M .keys) f k) (s .healthy .sized)
-        (L .free-wrote m i k w (s .healthy .sized) (s .healthy .good) l e)
-        (removed-sound (M .keys) (M .size m) (M .home m) (home-below m (s .healthy)) (M .slots m) (s .healthy .sound) k i l)
-        (λ a. rw (removed-look (M .keys) (M .size m) (M .slots m) (s .healthy .sound .once) k i w l e a, s .looks a))
+    shows-free i k w l e = wrote-shows m (M .free m i) (put (M .slots m) i freed) (remove (M .keys) f k) (s .soundTable .sized)
+        (L .free-wrote m i k w (s .soundTable .sized) (s .soundTable .good) l e)
+        (removed-sound (M .keys) (M .size m) (M .home m) (home-below m (s .soundTable)) (M .slots m) (s .soundTable .sound) k i l)
+        (λ a. rw (removed-look (M .keys) (M .size m) (M .slots m) (s .soundTable .sound .once) k i w l e a, s .looks a))
         (remove-proper (M .keys) f k (s .proper))
 
     pub shows-fill : (k : K) (v : W) → f .look k ≡ none → freeAt (M .size m) (M .home m k) (M .slots m) < M .size m → used M m + M .weight k ≤ M .bytes m → Shows M (M .fill m (slotAt M m k (freeAt (M .size m) (M .home m k) (M .slots m))) k v) (insert (M .keys) f k v)
     unfolding insert slotAt
     shows-fill k v e l u =
         let i : ℕ = at (M .size m) (M .home m k) (freeAt (M .size m) (M .home m k) (M .slots m)) in
-        wrote-shows m (M .fill m i k v) (put (M .slots m) i (live k v)) (insert (M .keys) f k v) (s .healthy .sized)
-        (L .fill-wrote m i k v (s .healthy .sized) (s .healthy .good) (at-below (M .size m) (M .home m k) (freeAt (M .size m) (M .home m k) (M .slots m)) (home-below m (s .healthy) k) l) (free-here (M .size m) (M .home m k) (M .slots m) l) u)
-        (fresh-sound (M .keys) (M .size m) (M .home m) (home-below m (s .healthy)) (M .slots m) (s .healthy .sound) k v (s .looks k ∙ e) l)
-        (λ a. rw (fresh-look (M .keys) (M .size m) (M .home m) (home-below m (s .healthy)) (M .slots m) (s .healthy .sound) k v (s .looks k ∙ e) l a, s .looks a))
+        wrote-shows m (M .fill m i k v) (put (M .slots m) i (live k v)) (insert (M .keys) f k v) (s .soundTable .sized)
+        (L .fill-wrote m i k v (s .soundTable .sized) (s .soundTable .good) (at-below (M .size m) (M .home m k) (freeAt (M .size m) (M .home m k) (M .slots m)) (home-below m (s .soundTable) k) l) (free-here (M .size m) (M .home m k) (M .slots m) l) u)
+        (fresh-sound (M .keys) (M .size m) (M .home m) (home-below m (s .soundTable)) (M .slots m) (s .soundTable .sound) k v (s .looks k ∙ e) l)
+        (λ a. rw (fresh-look (M .keys) (M .size m) (M .home m) (home-below m (s .soundTable)) (M .slots m) (s .soundTable .sound) k v (s .looks k ∙ e) l a, s .looks a))
         (insert-proper (M .keys) f k v (s .proper))
 
     -- the path is decided by the map
@@ -86,28 +86,28 @@ module _ {K W : Type 0} (M : Store K W) (L : Lawful M) where
     path-of k = go (f .look k) refl
       where
         go : (o : Option W) → f .look k ≡ o → PathOf k
-        go none e = gone (sound-miss (M .keys) (M .size m) (M .home m) (home-below m (s .healthy)) (M .slots m) (s .healthy .sound) k (s .looks k ∙ e)) e
+        go none e = gone (sound-miss (M .keys) (M .size m) (M .home m) (home-below m (s .soundTable)) (M .slots m) (s .soundTable .sound) k (s .looks k ∙ e)) e
         go (some v) e =
-            let (n, q) = sound-found (M .keys) (M .size m) (M .home m) (home-below m (s .healthy)) (M .slots m) (s .healthy .sound) k v (s .looks k ∙ e) in
+            let (n, q) = sound-found (M .keys) (M .size m) (M .home m) (home-below m (s .soundTable)) (M .slots m) (s .soundTable .sound) k v (s .looks k ∙ e) in
             let (l, p) = hit-at (M .keys) (M .size m) (M .home m k) (M .slots m) k n v q in
-            here n v q e (at-below (M .size m) (M .home m k) n (home-below m (s .healthy) k) l) p
+            here n v q e (at-below (M .size m) (M .home m k) n (home-below m (s .soundTable) k) l) p
 
     -- an absent key has a free slot on its path exactly when some slot is not live
     pub free-room : (k : K) → f .look k ≡ none → freeAt (M .size m) (M .home m k) (M .slots m) < M .size m → live-count M m < M .size m
     unfolding live-count
     free-room k e l = by-lt (count (M .slots m) (M .size m)) (M .size m) (λ c x. c)
-        (λ c x. let q = full-no-free (M .keys) (M .size m) (M .home m k) (home-below m (s .healthy) k) (M .slots m) k (omega (arith, count-high (M .slots m) (M .size m))) in
+        (λ c x. let q = full-no-free (M .keys) (M .size m) (M .home m k) (home-below m (s .soundTable) k) (M .slots m) k (omega (arith, count-high (M .slots m) (M .size m))) in
         let z : ⊥ = omega arith in absurd z)
 
     pub room-free : (k : K) → path M m k ≡ miss (pathLength M m k) (freeAt (M .size m) (M .home m k) (M .slots m)) → live-count M m < M .size m → freeAt (M .size m) (M .home m k) (M .slots m) < M .size m
     unfolding path live-count
     room-free k q c = by-lt (freeAt (M .size m) (M .home m k) (M .slots m)) (M .size m) (λ l x. l)
-        (λ l x. let e = no-free-full (M .keys) (M .size m) (M .home m k) (home-below m (s .healthy) k) (M .slots m) k (pathLength M m k) (freeAt (M .size m) (M .home m k) (M .slots m)) q l in
+        (λ l x. let e = no-free-full (M .keys) (M .size m) (M .home m k) (home-below m (s .soundTable) k) (M .slots m) k (pathLength M m k) (freeAt (M .size m) (M .home m k) (M .slots m)) q l in
         let z : ⊥ = omega arith in absurd z)
 
-    pub shows-unhurt : hurtful M m ≡ false
-    unfolding hurtful
-    shows-unhurt = damaged-not (M .slots m) (M .size m) (s .healthy .sound .whole)
+    pub shows-unhurt : damagedSlots M m ≡ false
+    unfolding damagedSlots
+    shows-unhurt = damaged-not (M .slots m) (M .size m) (s .soundTable .sound .whole)
 
-    pub shows-unharmed : M .harmed m ≡ false
-    shows-unharmed = L .unharmed m (s .healthy .sized) (s .healthy .good) (s .healthy .sound)
+    pub shows-unharmed : M .damagedFully m ≡ false
+    shows-unharmed = L .unharmed m (s .soundTable .sized) (s .soundTable .good) (s .soundTable .sound)

@@ -6,7 +6,7 @@ use mathlib.Core.Option.{Option, none, some}
 use mathlib.Core.Logic.{_⊎_, inl, inr, ⊎-elim, _↔_}
 use native.Mathlib.Omega.{arith}
 use borrow.Author.Tests.{eq-eqb, ne-eqb}
-use Rattle.model.specs.Slots.{Slot, never, freed, bad, live, Table, Keys, put, frees, hurts, holds, weigh, total, count, damaged, valueIn, look}
+use Rattle.model.specs.Slots.{Slot, never, freed, damaged, live, Table, Keys, put, frees, isDamaged, holds, weigh, total, count, anyDamaged, valueIn, look}
 use Rattle.model.proofs.Cases.{by-bool, by-lt, by-eq, clash}
 
 module _ {K W : Type 0} (t : Table K W) (i : ℕ) (s : Slot K W) where
@@ -23,7 +23,7 @@ pub frees-is : {K W : Type 0} (s : Slot K W) → (frees s ≡ true) ↔ ((s ≡ 
 unfolding frees
 frees-is never = ((λ e. inl refl), (λ x. refl))
 frees-is freed = ((λ e. inr refl), (λ x. refl))
-frees-is bad = ((λ e. clash cc), (λ x. ⊎-elim (λ e. clash cc) (λ e. clash cc) x))
+frees-is damaged = ((λ e. clash cc), (λ x. ⊎-elim (λ e. clash cc) (λ e. clash cc) x))
 frees-is (live a v) = ((λ e. clash cc), (λ x. ⊎-elim (λ e. clash cc) (λ e. clash cc) x))
 
 -- which slot a changed table has at j
@@ -40,7 +40,7 @@ module _ {K W : Type 0} (E : Keys K) (k : K) where
   unfolding holds
   holds-value never e = clash cc
   holds-value freed e = clash cc
-  holds-value bad e = clash cc
+  holds-value damaged e = clash cc
   holds-value (live a v) e = (v, ap (λ b. live b v) (sym (E .right k a e)))
 
   pub lacks : (s : Slot K W) → ((v : W) → s ≡ live k v → ⊥) → holds E k s ≡ false
@@ -50,7 +50,7 @@ module _ {K W : Type 0} (E : Keys K) (k : K) where
   unfolding holds valueIn
   value-lacks never o e = refl
   value-lacks freed o e = refl
-  value-lacks bad o e = refl
+  value-lacks damaged o e = refl
   value-lacks (live a v) o e = rw e
 
   value-holds : (s : Slot K W) (o : Option W) (v : W) → s ≡ live k v → valueIn E k s o ≡ some v
@@ -112,7 +112,7 @@ module _ {K W : Type 0} where
   unfolding weigh
   weigh-one never = omega arith
   weigh-one freed = omega arith
-  weigh-one bad = omega arith
+  weigh-one damaged = omega arith
   weigh-one (live a v) = omega arith
 
   pub count-high : (t : Table K W) (n : ℕ) → count t n ≤ n
@@ -124,7 +124,7 @@ module _ {K W : Type 0} where
   unfolding weigh
   live-weighs never e = absurd (omega arith)
   live-weighs freed e = absurd (omega arith)
-  live-weighs bad e = absurd (omega arith)
+  live-weighs damaged e = absurd (omega arith)
   live-weighs (live a v) e = (a, v, refl)
 
   -- where the count is the number of slots, every slot is live
@@ -141,39 +141,39 @@ module _ {K W : Type 0} where
   full-count t zero h = refl
   full-count t (suc n) h = omega (arith, full-count t n (λ i l. h i (omega arith)), h n (omega arith))
 
-  hurts-not : (s : Slot K W) → (s ≡ bad → ⊥) → hurts s ≡ false
-  unfolding hurts
+  hurts-not : (s : Slot K W) → (s ≡ damaged → ⊥) → isDamaged s ≡ false
+  unfolding isDamaged
   hurts-not never h = refl
   hurts-not freed h = refl
-  hurts-not bad h = absurd (h refl)
+  hurts-not damaged h = absurd (h refl)
   hurts-not (live a v) h = refl
 
-  pub damaged-not : (t : Table K W) (n : ℕ) → ((i : ℕ) → i < n → t i ≡ bad → ⊥) → damaged t n ≡ false
-  unfolding damaged
+  pub damaged-not : (t : Table K W) (n : ℕ) → ((i : ℕ) → i < n → t i ≡ damaged → ⊥) → anyDamaged t n ≡ false
+  unfolding anyDamaged
   damaged-not t zero h = refl
   damaged-not t (suc n) h = rw (hurts-not (t n) (h n (omega arith))) (damaged-not t n (λ i l. h i (omega arith)))
 
-  hurts-bad : (s : Slot K W) → s ≡ bad → hurts s ≡ true
-  unfolding hurts
+  hurts-bad : (s : Slot K W) → s ≡ damaged → isDamaged s ≡ true
+  unfolding isDamaged
   hurts-bad s e = rw e
 
-  pub damaged-bad : (t : Table K W) (n i : ℕ) → i < n → t i ≡ bad → damaged t n ≡ true
-  unfolding damaged
+  pub damaged-bad : (t : Table K W) (n i : ℕ) → i < n → t i ≡ damaged → anyDamaged t n ≡ true
+  unfolding anyDamaged
   damaged-bad t zero i l e = let z : ⊥ = omega arith in absurd z
   damaged-bad t (suc n) i l e = by-lt i n
-      (λ l′ x. by-bool (hurts (t n)) (λ p. rw p) (λ p. rw p (damaged-bad t n i l′ e)))
+      (λ l′ x. by-bool (isDamaged (t n)) (λ p. rw p) (λ p. rw p (damaged-bad t n i l′ e)))
       (λ l′ x. let q : i ≡ n = omega arith in rw (hurts-bad (t n) (rw q at e)))
 
-  bad-hurts : (s : Slot K W) → hurts s ≡ true → s ≡ bad
-  unfolding hurts
+  bad-hurts : (s : Slot K W) → isDamaged s ≡ true → s ≡ damaged
+  unfolding isDamaged
   bad-hurts never e = clash cc
   bad-hurts freed e = clash cc
-  bad-hurts bad e = refl
+  bad-hurts damaged e = refl
   bad-hurts (live a v) e = clash cc
 
-  pub damaged-where : (t : Table K W) (n : ℕ) → damaged t n ≡ true → (i : ℕ) × (i < n) × (t i ≡ bad)
-  unfolding damaged
+  pub damaged-where : (t : Table K W) (n : ℕ) → anyDamaged t n ≡ true → (i : ℕ) × (i < n) × (t i ≡ damaged)
+  unfolding anyDamaged
   damaged-where t zero e = clash cc
-  damaged-where t (suc n) e = by-bool (hurts (t n))
+  damaged-where t (suc n) e = by-bool (isDamaged (t n))
       (λ p. (n, omega arith, bad-hurts (t n) p))
       (λ p. let (i, l, q) = damaged-where t n (rw p at e) in (i, omega arith, q))

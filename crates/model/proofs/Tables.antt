@@ -9,7 +9,7 @@ use mathlib.Core.Option.{Option, none, some}
 use native.Mathlib.Omega.{arith}
 use borrow.Author.Tests.{eqb-true, eq-eqb}
 use lib.Dec.{eqb}
-use Rattle.model.specs.Slots.{Slot, never, freed, bad, live, Table, Keys, put, frees, count, pairOf, pairs, look}
+use Rattle.model.specs.Slots.{Slot, never, freed, damaged, live, Table, Keys, put, frees, count, pairOf, pairs, look}
 use Rattle.model.specs.Finite.{Finite, isSome, contains, mass, len, insert, member, Once, once-none, once-more, Proper, firsts, lastIn, orElse, finiteOf}
 use Rattle.model.specs.Path.{at, freeAt}
 use Rattle.model.specs.Store.{Store, path, slotAt, live-count, used}
@@ -20,7 +20,7 @@ use Rattle.model.specs.Walk.{step}
 use Rattle.model.specs.Demand3.{lookIn}
 use Rattle.model.proofs.Demand2.{left-shows}
 use Rattle.model.specs.Tables.{sweeps, Sure}
-use Rattle.model.specs.Lawful.{Lawful, Healthy, Shows}
+use Rattle.model.specs.Lawful.{Lawful, SoundTable, Shows}
 use Rattle.model.proofs.Cases.{by-eq, by-same, clash}
 use Rattle.model.proofs.Slots.{by-put, look-some}
 use Rattle.model.proofs.Pairs.{last-look, lacking-less}
@@ -55,14 +55,14 @@ module _ {K W : Type 0} (E : Keys K) where
   unfolding member firsts pairOf
   pair-lacks k never h = refl
   pair-lacks k freed h = refl
-  pair-lacks k bad h = refl
+  pair-lacks k damaged h = refl
   pair-lacks k (live a v) h = by-same E k a (λ q e. absurd (h v (ap (λ x. live x v) (sym q)))) (λ e. rw e)
 
   pair-once : (s : Slot K W) → Once E (firsts (pairOf s))
   unfolding firsts pairOf member
   pair-once never = once-none
   pair-once freed = once-none
-  pair-once bad = once-none
+  pair-once damaged = once-none
   pair-once (live a v) = once-more refl once-none
 
   -- where each live key stands once, a table's pairs have no key twice
@@ -85,9 +85,9 @@ module _ {K W : Type 0} (E : Keys K) where
 
 module _ {K W : Type 0} (M : Store K W) (L : Lawful M) where
   -- a sound memory shows the finite map of its slots
-  pub healthy-shows : (m : M .State) → Healthy M m → Shows M m (finiteOf (M .keys) (M .slots m) (M .size m))
+  pub healthy-shows : (m : M .State) → SoundTable M m → Shows M m (finiteOf (M .keys) (M .slots m) (M .size m))
   unfolding finiteOf
-  healthy-shows m h = record { healthy = h; looks = λ k. refl; proper = finite-proper (M .keys) (M .size m) (M .slots m) (h .sound .once) }
+  healthy-shows m h = record { soundTable = h; looks = λ k. refl; proper = finite-proper (M .keys) (M .size m) (M .slots m) (h .sound .once) }
 
   -- how a call may change a memory: not at all, in one slot, or by a wipe
   data Changed (m n : M .State) : Type 0 where
@@ -97,25 +97,25 @@ module _ {K W : Type 0} (M : Store K W) (L : Lawful M) where
     let-go : (i : ℕ) (k : K) (w : W) → i < M .size m → M .slots m i ≡ live k w → n ≡ M .free m i → Changed m n
 
   -- no slot of a key that is still there has moved
-  abbrev Stood : (m n : M .State) → Type 0
-  Stood m n = (i : ℕ) (k : K) (v w : W) → i < M .size m → M .slots m i ≡ live k v → look (M .keys) (M .slots n) (M .size n) k ≡ some w → (u : W) × (M .slots n i ≡ live k u)
+  abbrev KeepsPlace : (m n : M .State) → Type 0
+  KeepsPlace m n = (i : ℕ) (k : K) (v w : W) → i < M .size m → M .slots m i ≡ live k v → look (M .keys) (M .slots n) (M .size n) k ≡ some w → (u : W) × (M .slots n i ≡ live k u)
 
   frees-dead : (s : Slot K W) (k : K) (v : W) → frees s ≡ true → s ≡ live k v → ⊥
   unfolding frees
   frees-dead s k v a b = let q : _≡_ {A = Bool} true false = sym a ∙ ap frees b in clash cc
 
   -- a value set or a slot taken leaves every live slot its key
-  over-live : (m : M .State) → Healthy M m → (j : ℕ) (a : K) (x y : W) → j < M .size m → M .slots m j ≡ live a y → (i : ℕ) (k : K) (v : W) → M .slots m i ≡ live k v → (u : W) × (M .slots (M .over m j x) i ≡ live k u)
+  over-live : (m : M .State) → SoundTable M m → (j : ℕ) (a : K) (x y : W) → j < M .size m → M .slots m j ≡ live a y → (i : ℕ) (k : K) (v : W) → M .slots m i ≡ live k v → (u : W) × (M .slots (M .over m j x) i ≡ live k u)
   over-live m h j a x y c d i k v p = rw (L .over-wrote m j a x y (h .sized) (h .good) c d .slots) (by-put (M .slots m) j (live a x) i
       (λ z r. let s : live k v ≡ live a y = sym p ∙ ap (M .slots m) z ∙ d in (x, r ∙ ap (λ b. live b x) (cc)))
       (λ z r. (v, r ∙ p)))
 
-  fill-live : (m : M .State) → Healthy M m → (j : ℕ) (a : K) (x : W) → j < M .size m → frees (M .slots m j) ≡ true → used M m + M .weight a ≤ M .bytes m → (i : ℕ) (k : K) (v : W) → M .slots m i ≡ live k v → (u : W) × (M .slots (M .fill m j a x) i ≡ live k u)
+  fill-live : (m : M .State) → SoundTable M m → (j : ℕ) (a : K) (x : W) → j < M .size m → frees (M .slots m j) ≡ true → used M m + M .weight a ≤ M .bytes m → (i : ℕ) (k : K) (v : W) → M .slots m i ≡ live k v → (u : W) × (M .slots (M .fill m j a x) i ≡ live k u)
   fill-live m h j a x c d b i k v p = rw (L .fill-wrote m j a x (h .sized) (h .good) c d b .slots) (by-put (M .slots m) j (live a x) i
       (λ z r. absurd (frees-dead (M .slots m i) k v (rw z d) p))
       (λ z r. (v, r ∙ p)))
 
-  changed-stood : (m n : M .State) → Healthy M m → Changed m n → Stood m n × (M .size n ≡ M .size m)
+  changed-stood : (m n : M .State) → SoundTable M m → Changed m n → KeepsPlace m n × (M .size n ≡ M .size m)
   changed-stood m n h (same e) = ((λ i k v w l p q. (v, (rw e p))), rw e)
   changed-stood m n h (set-value j a x y c d e) = rw e ((λ i k v w l p q. over-live m h j a x y c d i k v p), L .over-wrote m j a x y (h .sized) (h .good) c d .size)
   changed-stood m n h (took-slot j a x c d u e) = rw e ((λ i k v w l p q. fill-live m h j a x c d u i k v p), L .fill-wrote m j a x (h .sized) (h .good) c d u .size)
@@ -137,7 +137,7 @@ module _ {K W : Type 0} (M : Store K W) (L : Lawful M) where
   acted-changed m (no r) n h = same refl
   acted-changed m (ok u) n h = h u refl
 
-  module _ (m : M .State) (h : Healthy M m) where
+  module _ (m : M .State) (h : SoundTable M m) where
     spot-changed : (k : K) (v : W) (i e : ℕ) → spotBy M m k (path M m k) ≡ ok (vacant i e) → Changed m (M .fill m i k v)
     unfolding slotAt
     spot-changed k v i e q =
@@ -210,8 +210,8 @@ module _ {K W : Type 0} (M : Store K W) (L : Lawful M) where
   rule-live m f s a b x y i k v e = ruled (rule-cases M L m f s a b x y)
     where
       ruled : Ruled M L m f s a b → (u : W) × (M .slots (ruleBy M m a b (path M m a)) i ≡ live k u)
-      ruled (ruled-over n w l q r) = rw r (over-live m (s .healthy) (slotAt M m a n) a b w l q i k v e)
-      ruled (ruled-fill n l q u r) = rw r (fill-live m (s .healthy) (slotAt M m a n) a b l q u i k v e)
+      ruled (ruled-over n w l q r) = rw r (over-live m (s .soundTable) (slotAt M m a n) a b w l q i k v e)
+      ruled (ruled-fill n l q u r) = rw r (fill-live m (s .soundTable) (slotAt M m a n) a b l q u i k v e)
 
   -- union's rule, pair by pair, leaves every live slot its key
   all-live : (ps : List (K × W)) (m : M .State) (f : Finite K W) → Shows M m f → mass (λ k. 1) (f .dom) + mass (λ k. cond (contains f k) 0 1) (firsts ps) ≤ M .size m → mass (M .weight) (f .dom) + mass (λ k. cond (contains f k) 0 (M .weight k)) (firsts ps) ≤ M .bytes m → (M .size (storeAll M m ps) ≡ M .size m) × ((i : ℕ) (k : K) (v : W) → M .slots m i ≡ live k v → (u : W) × (M .slots (storeAll M m ps) i ≡ live k u))
@@ -226,7 +226,7 @@ module _ {K W : Type 0} (M : Store K W) (L : Lawful M) where
       (omega (arith, lacking-less (M .keys) (M .weight) f (p .0) (p .1) (firsts ps))) in
       (z ∙ x, λ i k v e. let (u, q) = rule-live m f s (p .0) (p .1) (omega arith) (omega arith) i k v e in r i k u q)
 
-  union-live : (l r : M .State) → Healthy M l → (u : Unit {0}) → union M l r ≡ ok u → (M .size (storeAll M l (pairs (M .slots r) (M .size r))) ≡ M .size l) × ((i : ℕ) (k : K) (v : W) → M .slots l i ≡ live k v → (w : W) × (M .slots (storeAll M l (pairs (M .slots r) (M .size r))) i ≡ live k w))
+  union-live : (l r : M .State) → SoundTable M l → (u : Unit {0}) → union M l r ≡ ok u → (M .size (storeAll M l (pairs (M .slots r) (M .size r))) ≡ M .size l) × ((i : ℕ) (k : K) (v : W) → M .slots l i ≡ live k v → (w : W) × (M .slots (storeAll M l (pairs (M .slots r) (M .size r))) i ≡ live k w))
   union-live l r h u e =
       let (a, b) = union-room M L l r (finiteOf (M .keys) (M .slots l) (M .size l)) (healthy-shows l h) u e in
       all-live (pairs (M .slots r) (M .size r)) l (finiteOf (M .keys) (M .slots l) (M .size l)) (healthy-shows l h) a b
@@ -247,11 +247,11 @@ module _ {K W : Type 0} (M : Store K W) (L : Lawful M) where
   unfolding after-make capacity
   made-size m = acted-size m (need (M .sized m) 1 (ok (M .size m))) (M .wipe m) (λ u e. L .wipe-wrote m (need-ok (M .sized m) 1 (ok (M .size m)) u e .0) .size)
 
-  own-size : (m : M .State) → Healthy M m → (c : Own K W) → M .size (leaves M m c) ≡ M .size m
+  own-size : (m : M .State) → SoundTable M m → (c : Own K W) → M .size (leaves M m c) ≡ M .size m
   own-size m h c = by-renews M m c (λ e. changed-stood m (leaves M m c) h (own-changed m h c e) .1) (λ e l t. rw l (made-size m))
 
   -- every call keeps a table's number of slots
-  pub left-size : (w : World M) (x : ℕ) → Healthy M (w x) → (c : Call K W) → M .size (left M w x c) ≡ M .size (w x)
+  pub left-size : (w : World M) (x : ℕ) → SoundTable M (w x) → (c : Call K W) → M .size (left M w x c) ≡ M .size (w x)
   unfolding left after-copy after-union
   left-size w x h (own c) = own-size (w x) h c
   left-size w x h (copies y) = acted-size (w x) (copy M (w x) (w y)) (w y) (λ u e. copy-size (w x) (w y) u e)
@@ -259,10 +259,10 @@ module _ {K W : Type 0} (M : Store K W) (L : Lawful M) where
   left-size w x h (steps a b) = refl
 
   -- a call that does not wipe moves no key that is still there
-  stood-same : (m : M .State) → Stood m m
+  stood-same : (m : M .State) → KeepsPlace m m
   stood-same m i k v w l p q = (v, p)
 
-  acted-stood : {A : Type 0} (m : M .State) (a : Or A) (n : M .State) → ((u : A) → a ≡ ok u → Stood m n) → Stood m (acted M m a n)
+  acted-stood : {A : Type 0} (m : M .State) (a : Or A) (n : M .State) → ((u : A) → a ≡ ok u → KeepsPlace m n) → KeepsPlace m (acted M m a n)
   unfolding acted
   acted-stood m (no r) n t = stood-same m
   acted-stood m (ok u) n t = t u refl
@@ -273,7 +273,7 @@ module _ {K W : Type 0} (M : Store K W) (L : Lawful M) where
   refused-stays m (no r) n e = refl
   refused-stays m (ok u) n e = clash cc
 
-  left-stood : (w : World M) (x : ℕ) → Healthy M (w x) → (c : Call K W) → (sweeps M c && not (refuses (answer M w x c))) ≡ false → Stood (w x) (left M w x c)
+  left-stood : (w : World M) (x : ℕ) → SoundTable M (w x) → (c : Call K W) → (sweeps M c && not (refuses (answer M w x c))) ≡ false → KeepsPlace (w x) (left M w x c)
   unfolding sweeps answer left after-copy after-union after-make
   left-stood w x h (own c) e = by-renews M (w x) c
       (λ r. changed-stood (w x) (leaves M (w x) c) h (own-changed (w x) h c r) .0)
@@ -283,14 +283,14 @@ module _ {K W : Type 0} (M : Store K W) (L : Lawful M) where
   left-stood w x h (steps a b) e = stood-same (w x)
 
   -- the value of a live key is the one in the map
-  settled : (m : M .State) → Healthy M m → (i : ℕ) (k : K) (v u : W) → i < M .size m → M .slots m i ≡ live k v → look (M .keys) (M .slots m) (M .size m) k ≡ some u → M .slots m i ≡ live k u
+  settled : (m : M .State) → SoundTable M m → (i : ℕ) (k : K) (v u : W) → i < M .size m → M .slots m i ≡ live k v → look (M .keys) (M .slots m) (M .size m) k ≡ some u → M .slots m i ≡ live k u
   settled m h i k v u l p q =
       let r = once-look (M .keys) (M .size m) (M .slots m) (h .sound .once) k i v l p in
       p ∙ ap (λ x. live k x) (cc)
 
   -- a known table is sound
-  pub sure-healthy : (x S : ℕ) (s : Book M) → Sure M x S s → Healthy M (s .world x)
-  sure-healthy x S s f = let (m, e) = some-is (M .keys) (s .maps x) (f .known) in f .shows x m e .healthy
+  pub sure-healthy : (x S : ℕ) (s : Book M) → Sure M x S s → SoundTable M (s .world x)
+  sure-healthy x S s f = let (m, e) = some-is (M .keys) (s .maps x) (f .known) in f .shows x m e .soundTable
 
   -- its slots show the known map, and as many live ones as the map has keys
   pub sure-looks : (x S : ℕ) (s : Book M) → Sure M x S s → (k : K) → look (M .keys) (M .slots (s .world x)) S k ≡ lookIn (s .maps x) k
@@ -317,7 +317,7 @@ module _ {K W : Type 0} (M : Store K W) (L : Lawful M) where
     shows = booked-shows s (f .shows) y c;
     known = k;
     sized = by-eq x y
-        (λ r t. rw t (left-size (s .world) y (subst (λ z. Healthy M (s .world z)) r (sure-healthy x S s f)) c ∙ ap (λ z. M .size (s .world z)) (sym r) ∙ f .sized))
+        (λ r t. rw t (left-size (s .world) y (subst (λ z. SoundTable M (s .world z)) r (sure-healthy x S s f)) c ∙ ap (λ z. M .size (s .world z)) (sym r) ∙ f .sized))
         (λ r t. rw t (f .sized));
   }
 
@@ -326,17 +326,17 @@ module _ {K W : Type 0} (M : Store K W) (L : Lawful M) where
   unfolding turned placed
   booked-stands x S s f y c a e i k v u l p q =
       let g : Sure M x S (booked M s y c) = booked-sure x S s f y c a in
-      let h : Healthy M (booked M s y c .world x) = sure-healthy x S (booked M s y c) g in
+      let h : SoundTable M (booked M s y c .world x) = sure-healthy x S (booked M s y c) g in
       by-eq x y
       (λ r t.
-      let o : Healthy M (s .world y) = subst (λ z. Healthy M (s .world z)) r (sure-healthy x S s f) in
+      let o : SoundTable M (s .world y) = subst (λ z. SoundTable M (s .world z)) r (sure-healthy x S s f) in
       let n : M .size (s .world y) ≡ S = ap (λ z. M .size (s .world z)) (sym r) ∙ f .sized in
       let z : M .size (left M (s .world) y c) ≡ S = left-size (s .world) y o c ∙ n in
       let e′ : (sweeps M c && not (refuses (answer M (s .world) y c))) ≡ false = rw (eq-eqb y x (sym r)) at e in
       let q′ : look (M .keys) (M .slots (left M (s .world) y c)) (M .size (left M (s .world) y c)) k ≡ some u = rw z (rw t at q) in
       let p′ : M .slots (s .world y) i ≡ live k v = subst (λ b. M .slots (s .world b) i ≡ live k v) r p in
       let (d, b) = left-stood (s .world) y o c e′ i k v u (rw n l) p′ q′ in
-      let h′ : Healthy M (left M (s .world) y c) = rw t at h in
+      let h′ : SoundTable M (left M (s .world) y c) = rw t at h in
       rw t (settled (left M (s .world) y c) h′ i k d u (rw z l) b q′))
       (λ r t. rw t (settled (s .world x) (sure-healthy x S s f) i k v u (rw (f .sized) l) p (rw (f .sized) (rw t at q))))
 

@@ -11,7 +11,7 @@ use Rattle.model.specs.Slots.{live, frees, total, pairs, look}
 use Rattle.model.specs.Path.{miss, freeAt}
 use Rattle.model.specs.Finite.{Finite, isSome, orElse, contains, mass, len, insert, union-prefer-right, firsts, insertAll}
 use Rattle.model.specs.Store.{Store, path, slotAt, pathLength, live-count, used}
-use Rattle.model.specs.Calls.{ok, need, ruleBy, rule, storeAll, missed, lacking, needs, ruined, union, acted, after-union}
+use Rattle.model.specs.Calls.{ok, need, ruleBy, rule, storeAll, missed, lacking, needs, anyDamage, union, acted, after-union}
 use Rattle.model.specs.Lawful.{Lawful, Shows}
 use Rattle.model.proofs.Cases.{by-bool}
 use Rattle.model.proofs.Path.{at-below, free-here}
@@ -41,7 +41,7 @@ module _ {K W : Type 0} (M : Store K W) (L : Lawful M) where
 
     free-below : (k : K) → freeAt (M .size m) (M .home m k) (M .slots m) < M .size m → slotAt M m k (freeAt (M .size m) (M .home m k) (M .slots m)) < M .size m
     unfolding slotAt
-    free-below k l = at-below (M .size m) (M .home m k) (freeAt (M .size m) (M .home m k) (M .slots m)) (home-below M L m (s .healthy) k) l
+    free-below k l = at-below (M .size m) (M .home m k) (freeAt (M .size m) (M .home m k) (M .slots m)) (home-below M L m (s .soundTable) k) l
 
     free-open : (k : K) → freeAt (M .size m) (M .home m k) (M .slots m) < M .size m → frees (M .slots m (slotAt M m k (freeAt (M .size m) (M .home m k) (M .slots m)))) ≡ true
     unfolding slotAt
@@ -78,11 +78,11 @@ module _ {K W : Type 0} (M : Store K W) (L : Lawful M) where
       where
         go : PathOf M L m f s k → Shows M (ruleBy M m k v (path M m k)) (insert (M .keys) f k v) × (M .size (ruleBy M m k v (path M m k)) ≡ M .size m) × (M .bytes (ruleBy M m k v (path M m k)) ≡ M .bytes m)
         go (here n w p e l q) =
-            let x = L .over-wrote m (slotAt M m k n) k v w (s .healthy .sized) (s .healthy .good) l q in
+            let x = L .over-wrote m (slotAt M m k n) k v w (s .soundTable .sized) (s .soundTable .good) l q in
             rw p (shows-over M L m f s (slotAt M m k n) k v w l q, x .size, x .bytes)
         go (gone p e) =
             let (l, u) = gone-room k v a b p e in
-            let x = L .fill-wrote m (slotAt M m k (freeAt (M .size m) (M .home m k) (M .slots m))) k v (s .healthy .sized) (s .healthy .good) (free-below k l) (free-open k l) u in
+            let x = L .fill-wrote m (slotAt M m k (freeAt (M .size m) (M .home m k) (M .slots m))) k v (s .soundTable .sized) (s .soundTable .good) (free-below k l) (free-open k l) u in
             rw (p, lt-ltb (freeAt (M .size m) (M .home m k) (M .slots m)) (M .size m) l) (shows-fill M L m f s k v e l u, x .size, x .bytes)
 
   -- the rule for each pair, where the keys that the map lacks have slots and bytes
@@ -113,8 +113,8 @@ module _ {K W : Type 0} (M : Store K W) (L : Lawful M) where
     union-room u e =
         let a = need-ok (M .sized l) 1 _ u e .1 in
         let b = need-ok (M .sized r) 1 _ u a .1 in
-        let c = need-ok (not (ruined M l)) 5 _ u b .1 in
-        let d = need-ok (not (ruined M r)) 5 _ u c .1 in
+        let c = need-ok (not (anyDamage M l)) 5 _ u b .1 in
+        let d = need-ok (not (anyDamage M r)) 5 _ u c .1 in
         let x = need-ok (leb (needs M (λ k. 1) l r) (M .size l - live-count M l)) 7 _ u d in
         let y = need-ok (leb (needs M (M .weight) l r) (M .bytes l - used M l)) 8 _ u (x .1) in (
           omega (arith, leb-true (needs M (λ k. 1) l r) (M .size l - live-count M l) (x .0), needs-pairs (λ k. 1), live-length, len-high M L l f s),
@@ -135,9 +135,9 @@ module _ {K W : Type 0} (M : Store K W) (L : Lawful M) where
     lacked-needs g = rw (lacking-mass l f s g)
 
     -- what a union with ANY right answers: its sizes and its damage, then the slots and bytes that the map's lacking keys need, counted over its live slots
-    pub union-any : union M l r ≡ need (M .sized r) 1 (need (not (ruined M r)) 5 (need (leb (total (λ k. cond (contains f k) 0 1) (M .slots r) (M .size r)) (M .size l - mass (λ k. 1) (f .dom))) 7 (need (leb (total (λ k. cond (contains f k) 0 (M .weight k)) (M .slots r) (M .size r)) (M .bytes l - mass (M .weight) (f .dom))) 8 (ok tt))))
-    unfolding union need ruined
-    union-any = rw (s .healthy .sized, shows-unhurt M L l f s, shows-unharmed M L l f s, lacked-needs (λ k. 1), lacked-needs (M .weight), live-length, used-mass M L l f s)
+    pub union-any : union M l r ≡ need (M .sized r) 1 (need (not (anyDamage M r)) 5 (need (leb (total (λ k. cond (contains f k) 0 1) (M .slots r) (M .size r)) (M .size l - mass (λ k. 1) (f .dom))) 7 (need (leb (total (λ k. cond (contains f k) 0 (M .weight k)) (M .slots r) (M .size r)) (M .bytes l - mass (M .weight) (f .dom))) 8 (ok tt))))
+    unfolding union need anyDamage
+    union-any = rw (s .soundTable .sized, shows-unhurt M L l f s, shows-unharmed M L l f s, lacked-needs (λ k. 1), lacked-needs (M .weight), live-length, used-mass M L l f s)
 
     module _ (g : Finite K W) (t : Shows M r g) where
       -- a known right: union_prefer_right of the two maps
@@ -153,13 +153,13 @@ module _ {K W : Type 0} (M : Store K W) (L : Lawful M) where
 
       -- refused exactly when the union would have more keys than slots, or more bytes than the arena
       pub union-known : union M l r ≡ need (leb (mass (λ k. 1) (union-prefer-right f g .dom)) (M .size l)) 7 (need (leb (mass (M .weight) (union-prefer-right f g .dom)) (M .bytes l)) 8 (ok tt))
-      unfolding union need ruined
+      unfolding union need anyDamage
       union-known =
           let a = union-mass (M .keys) (λ k. 1) f g in
           let b = union-mass (M .keys) (M .weight) f g in
           let one = needs-mass (λ k. 1) in
           let all = needs-mass (M .weight) in
-          rw (s .healthy .sized, t .healthy .sized, shows-unhurt M L l f s, shows-unharmed M L l f s, shows-unhurt M L r g t, shows-unharmed M L r g t)
+          rw (s .soundTable .sized, t .soundTable .sized, shows-unhurt M L l f s, shows-unharmed M L l f s, shows-unhurt M L r g t, shows-unharmed M L r g t)
           (by-bool (leb (needs M (λ k. 1) l r) (M .size l - live-count M l))
           (λ x. rw (x, le-leb (mass (λ k. 1) (union-prefer-right f g .dom)) (M .size l) (omega (arith, leb-true (needs M (λ k. 1) l r) (M .size l - live-count M l) x, live-length, len-high M L l f s)))
           (by-bool (leb (needs M (M .weight) l r) (M .bytes l - used M l))

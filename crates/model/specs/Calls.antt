@@ -4,9 +4,9 @@ use mathlib.Core.Bool.{Bool, true, false, cond, not}
 use mathlib.Core.List.{List, [], _∷_}
 use mathlib.Core.Option.{Option, none, some}
 use lib.Dec.{ltb, leb, eqb}
-use Rattle.model.specs.Slots.{Slot, never, freed, bad, live, total, pairs}
-use Rattle.model.specs.Path.{Find, hit, miss, hurt}
-use Rattle.model.specs.Store.{Store, path, slotAt, live-count, used, hurtful}
+use Rattle.model.specs.Slots.{Slot, never, freed, damaged, live, total, pairs}
+use Rattle.model.specs.Path.{Find, hit, miss, damage}
+use Rattle.model.specs.Store.{Store, path, slotAt, live-count, used, damagedSlots}
 
 -- An answer, or the number of a refusal.
 pub data Or (A : Type 0) : Type 0 where
@@ -54,13 +54,13 @@ module _ {K W : Type 0} (M : Store K W) where
   unfoldable pub seenBy : M .State → K → Find W → Or (Seen W)
   seenBy m k (hit n v) = ok (found v (slotAt M m k n) (suc n))
   seenBy m k (miss e f) = ok (absent e)
-  seenBy m k hurt = no 5
+  seenBy m k damage = no 5
 
   -- What insert and entry make of their path: an absent key needs a free slot, and its bytes.
   unfoldable pub spotBy : M .State → K → Find W → Or (Spot W)
   spotBy m k (hit n v) = ok (occupied (slotAt M m k n) v (suc n))
   spotBy m k (miss e f) = need (ltb f (M .size m)) 7 (need (leb (M .weight k) (M .bytes m - used M m)) 8 (ok (vacant (slotAt M m k f) e)))
-  spotBy m k hurt = no 5
+  spotBy m k damage = no 5
 
   -- get, contains: the path decides.
   unfoldable pub get : M .State → K → Or (Seen W)
@@ -68,7 +68,7 @@ module _ {K W : Type 0} (M : Store K W) where
 
   -- entry, and insert's answer: occupied (replaced), vacant (fresh), or refused.
   unfoldable pub entry : M .State → K → Or (Spot W)
-  entry m k = need (M .sized m) 1 (pass (M .kept k) (need (not (M .harmed m)) 5 (spotBy m k (path M m k))))
+  entry m k = need (M .sized m) 1 (pass (M .kept k) (need (not (M .damagedFully m)) 5 (spotBy m k (path M m k))))
 
   -- insert: key on the path, only its value changes, in that slot; otherwise the first free slot of the path takes it.
   unfoldable pub storedBy : M .State → K → W → Or (Spot W) → M .State
@@ -82,7 +82,7 @@ module _ {K W : Type 0} (M : Store K W) where
 
   -- remove: a lookup after the tests of storing calls; the found slot is freed.
   unfoldable pub remove : M .State → K → Or (Seen W)
-  remove m k = need (M .sized m) 1 (pass (M .asked k) (need (not (M .harmed m)) 5 (seenBy m k (path M m k))))
+  remove m k = need (M .sized m) 1 (pass (M .asked k) (need (not (M .damagedFully m)) 5 (seenBy m k (path M m k))))
 
   -- What remove leaves: the found slot freed, else all as it was.
   unfoldable pub removedBy : M .State → Or (Seen W) → M .State
@@ -109,11 +109,11 @@ module _ {K W : Type 0} (M : Store K W) where
 
   -- length, and so emptiness: the number of live slots, after every slot was examined.
   unfoldable pub length : M .State → Or ℕ
-  length m = need (M .sized m) 1 (need (not (hurtful M m)) 5 (ok (live-count M m)))
+  length m = need (M .sized m) 1 (need (not (damagedSlots M m)) 5 (ok (live-count M m)))
 
   -- reserve: room exactly when at least the asked number of slots are not live.
   unfoldable pub reserve : M .State → ℕ → Or (Unit {0})
-  reserve m n = need (M .sized m) 1 (need (not (hurtful M m)) 5 (need (leb n (M .size m - live-count M m)) 7 (ok tt)))
+  reserve m n = need (M .sized m) 1 (need (not (damagedSlots M m)) 5 (need (leb n (M .size m - live-count M m)) 7 (ok tt)))
 
   -- copy from n onto m wants right and equal sizes, and examines nothing.
   unfoldable pub copy : M .State → M .State → Or (Unit {0})
@@ -127,7 +127,7 @@ module _ {K W : Type 0} (M : Store K W) where
   unfoldable pub ruleBy : M .State → K → W → Find W → M .State
   ruleBy m k v (hit n w) = M .over m (slotAt M m k n) v
   ruleBy m k v (miss e f) = cond (ltb f (M .size m)) (M .fill m (slotAt M m k f) k v) m
-  ruleBy m k v hurt = m
+  ruleBy m k v damage = m
 
   -- The insert rule by the key's path.
   unfoldable pub rule : M .State → K → W → M .State
@@ -142,7 +142,7 @@ module _ {K W : Type 0} (M : Store K W) where
   unfoldable pub missed : Find W → Bool
   missed (hit n v) = false
   missed (miss e f) = true
-  missed hurt = true
+  missed damage = true
 
   -- Whether a key is absent by its path.
   unfoldable pub lacking : M .State → K → Bool
@@ -153,14 +153,14 @@ module _ {K W : Type 0} (M : Store K W) where
   needs g l r = total (λ k. cond (lacking l k) (g k) 0) (M .slots r) (M .size r)
 
   -- Damage found by examining every slot of a table.
-  unfoldable pub ruined : M .State → Bool
-  ruined m = cond (hurtful M m) true (M .harmed m)
+  unfoldable pub anyDamage : M .State → Bool
+  anyDamage m = cond (damagedSlots M m) true (M .damagedFully m)
 
   -- union examines every slot of both before storing, and needs slots and bytes for the keys that the left lacks.
   unfoldable pub union : M .State → M .State → Or (Unit {0})
   union l r =
       need (M .sized l) 1 (need (M .sized r) 1
-      (need (not (ruined l)) 5 (need (not (ruined r)) 5
+      (need (not (anyDamage l)) 5 (need (not (anyDamage r)) 5
       (need (leb (needs (λ k. 1) l r) (M .size l - live-count M l)) 7
       (need (leb (needs (M .weight) l r) (M .bytes l - used M l)) 8 (ok tt))))))
 
@@ -169,19 +169,19 @@ module _ {K W : Type 0} (M : Store K W) where
   after-union l r = acted l (union l r) (storeAll l (pairs (M .slots r) (M .size r)))
 
   -- An occupied handle is good exactly when its slot is live and holds the key now.
-  unfoldable pub gripOn : K → Slot K W → Or W
-  gripOn k never = no 6
-  gripOn k freed = no 6
-  gripOn k bad = no 5
-  gripOn k (live a v) = need (M .keys .same k a) 6 (ok v)
+  unfoldable pub heldOn : K → Slot K W → Or W
+  heldOn k never = no 6
+  heldOn k freed = no 6
+  heldOn k damaged = no 5
+  heldOn k (live a v) = need (M .keys .same k a) 6 (ok v)
 
   -- An occupied handle examines its slot, none if it is S or above.
-  unfoldable pub grip : M .State → ℕ → K → Or W
-  grip m s k = need (ltb s (M .size m)) 6 (gripOn k (M .slots m s))
+  unfoldable pub heldAt : M .State → ℕ → K → Or W
+  heldAt m s k = need (ltb s (M .size m)) 6 (heldOn k (M .slots m s))
 
   -- An occupied handle's get, and its set's answer: the value in the slot.
   unfoldable pub occupied-get : M .State → ℕ → K → Or W
-  occupied-get m s k = need (M .sized m) 1 (pass (M .asked k) (grip m s k))
+  occupied-get m s k = need (M .sized m) 1 (pass (M .asked k) (heldAt m s k))
 
   -- The memory after an occupied handle's set: the value in its slot changed.
   unfoldable pub after-set : M .State → ℕ → K → W → M .State
@@ -189,7 +189,7 @@ module _ {K W : Type 0} (M : Store K W) where
 
   -- An occupied handle's remove: the value that was in the slot.
   unfoldable pub occupied-remove : M .State → ℕ → K → Or W
-  occupied-remove m s k = need (M .sized m) 1 (pass (M .asked k) (need (not (M .harmed m)) 5 (grip m s k)))
+  occupied-remove m s k = need (M .sized m) 1 (pass (M .asked k) (need (not (M .damagedFully m)) 5 (heldAt m s k)))
 
   -- The memory after an occupied handle's remove: its slot freed.
   unfoldable pub after-drop : M .State → ℕ → K → M .State
@@ -203,7 +203,7 @@ module _ {K W : Type 0} (M : Store K W) where
 
   -- A vacant handle's tests, in order; it examines the path, as insert does.
   unfoldable pub vacancy : M .State → ℕ → K → Or (Unit {0})
-  vacancy m s k = need (M .sized m) 1 (pass (M .kept k) (need (not (M .harmed m)) 5 (goodFor s (spotBy m k (path M m k)))))
+  vacancy m s k = need (M .sized m) 1 (pass (M .kept k) (need (not (M .damagedFully m)) 5 (goodFor s (spotBy m k (path M m k)))))
 
   -- A vacant handle's insert answers the value that is now in the slot.
   unfoldable pub vacant-insert : M .State → ℕ → K → W → Or W

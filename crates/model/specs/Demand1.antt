@@ -4,10 +4,10 @@ use mathlib.Core.Bool.{true, false}
 use mathlib.Core.List.{List, [], _∷_}
 use mathlib.Core.Logic.{_⊎_}
 use mathlib.Core.Path.{_≡_}
-use Rattle.model.specs.Slots.{bad, live}
+use Rattle.model.specs.Slots.{damaged, live}
 use Rattle.model.specs.Store.{Store, pathLength, slotAt, live-count, used}
 use Rattle.model.specs.Calls.{Or, no, ok, vacant, Handle, on-occupied, on-vacant, entry, needs}
-use Rattle.model.specs.Machine.{Own, makes, clears, capacities, lens, empties, reserves, gets, contains-keys, removes, entries, inserts, occupied-gets, occupied-removes, occupied-sets, vacant-inserts, or-inserts, insert-entries, Call, own, copies, unions, steps, Answer, refused, fine, number, truth, seen, spot, value, paced, World}
+use Rattle.model.specs.Machine.{Own, makes, clears, capacities, lens, empties, reserves, gets, contains-keys, removes, entries, inserts, occupied-gets, occupied-removes, occupied-sets, vacant-inserts, or-inserts, insert-entries, Call, own, copies, unions, steps, Answer, refused, fine, number, truth, seen, spot, value, stepped, World}
 
 -- A row of the table: a refusal's number, and when it applies.
 pub data Row : Type 1 where
@@ -47,7 +47,7 @@ refusal (truth b) = 0
 refusal (seen s) = 0
 refusal (spot s) = 0
 refusal (value v) = 0
-refusal (paced p) = 0
+refusal (stepped p) = 0
 
 -- The number in an answer that may be a refusal.
 unfoldable pub numberIn : {A : Type 0} → Or A → ℕ
@@ -57,16 +57,16 @@ numberIn (ok a) = 0
 module _ {K W : Type 0} (M : Store K W) where
   module _ (m : M .State) where
     -- An examined slot of the path is damaged.
-    abbrev pub BadOnPath : K → Type 0
-    BadOnPath k = (j : ℕ) × (j < pathLength M m k) × (M .slots m (slotAt M m k j) ≡ bad)
+    abbrev pub DamagedOnPath : K → Type 0
+    DamagedOnPath k = (j : ℕ) × (j < pathLength M m k) × (M .slots m (slotAt M m k j) ≡ damaged)
 
     -- The key is absent by its path.
     abbrev pub Absent : K → Type 0
     Absent k = (j : ℕ) (v : W) → j < pathLength M m k → M .slots m (slotAt M m k j) ≡ live k v → ⊥
 
     -- Some slot is damaged.
-    abbrev pub BadSomewhere : Type 0
-    BadSomewhere = (i : ℕ) × (i < M .size m) × (M .slots m i ≡ bad)
+    abbrev pub DamagedSomewhere : Type 0
+    DamagedSomewhere = (i : ℕ) × (i < M .size m) × (M .slots m i ≡ damaged)
 
     -- 1: the lent slices disagree in length, or a size is beyond its limit.
     abbrev sizes : Row
@@ -86,19 +86,19 @@ module _ {K W : Type 0} (M : Store K W) where
 
     -- length and emptiness examine every slot.
     abbrev pub count-rows : List Row
-    count-rows = sizes ∷ row 5 BadSomewhere ∷ []
+    count-rows = sizes ∷ row 5 DamagedSomewhere ∷ []
 
     -- reserve: too few slots that are not live.
     abbrev pub reserve-rows : ℕ → List Row
-    reserve-rows n = sizes ∷ row 5 BadSomewhere ∷ row 7 (M .size m - live-count M m < n) ∷ []
+    reserve-rows n = sizes ∷ row 5 DamagedSomewhere ∷ row 7 (M .size m - live-count M m < n) ∷ []
 
     -- get and contains examine the path.
     abbrev pub look-rows : K → List Row
-    look-rows k = sizes ∷ asked-key k ∷ row 5 (BadOnPath k) ∷ []
+    look-rows k = sizes ∷ asked-key k ∷ row 5 (DamagedOnPath k) ∷ []
 
     -- 5 for storing calls: what they find by examining every slot, or on the path.
     abbrev stored-damage : K → Row
-    stored-damage k = row 5 ((M .harmed m ≡ true) ⊎ BadOnPath k)
+    stored-damage k = row 5 ((M .damagedFully m ≡ true) ⊎ DamagedOnPath k)
 
     -- remove: the key asked for, and the damage that storing calls find.
     abbrev pub remove-rows : K → List Row
@@ -116,11 +116,11 @@ module _ {K W : Type 0} (M : Store K W) where
 
     -- An occupied handle's get and set examine its slot (none if it is S or above).
     abbrev pub grip-rows : ℕ → K → List Row
-    grip-rows s k = sizes ∷ asked-key k ∷ row 5 ((s < M .size m) × (M .slots m s ≡ bad)) ∷ not-held s k ∷ []
+    grip-rows s k = sizes ∷ asked-key k ∷ row 5 ((s < M .size m) × (M .slots m s ≡ damaged)) ∷ not-held s k ∷ []
 
     -- Its remove: what storing calls examine besides.
     abbrev pub drop-rows : ℕ → K → List Row
-    drop-rows s k = sizes ∷ asked-key k ∷ row 5 ((M .harmed m ≡ true) ⊎ ((s < M .size m) × (M .slots m s ≡ bad))) ∷ not-held s k ∷ []
+    drop-rows s k = sizes ∷ asked-key k ∷ row 5 ((M .damagedFully m ≡ true) ⊎ ((s < M .size m) × (M .slots m s ≡ damaged))) ∷ not-held s k ∷ []
 
     -- A vacant handle examines the path; it is good exactly when insert would use that slot without refusing.
     abbrev pub open-rows : ℕ → K → List Row
@@ -129,7 +129,7 @@ module _ {K W : Type 0} (M : Store K W) where
     -- A walk step examines the slots that it passes: up to its first live one, within its budget.
     abbrev pub step-rows : ℕ → ℕ → List Row
     step-rows a b = sizes ∷ row 3 (b ≡ 0) ∷ row 4 (M .size m < a)
-        ∷ row 5 ((j : ℕ) × (a ≤ j) × (j < M .size m) × (j < a + b) × (M .slots m j ≡ bad) × ((i : ℕ) (k : K) (v : W) → a ≤ i → i < j → M .slots m i ≡ live k v → ⊥)) ∷ []
+        ∷ row 5 ((j : ℕ) × (a ≤ j) × (j < M .size m) × (j < a + b) × (M .slots m j ≡ damaged) × ((i : ℕ) (k : K) (v : W) → a ≤ i → i < j → M .slots m i ≡ live k v → ⊥)) ∷ []
 
   -- copy from n onto m: sizes alone, and they must be equal.
   abbrev pub copy-rows : M .State → M .State → List Row
@@ -139,7 +139,7 @@ module _ {K W : Type 0} (M : Store K W) where
   abbrev pub union-rows : M .State → M .State → List Row
   union-rows l r =
       row 1 ((M .sized l ≡ false) ⊎ (M .sized r ≡ false))
-      ∷ row 5 ((BadSomewhere l ⊎ (M .harmed l ≡ true)) ⊎ (BadSomewhere r ⊎ (M .harmed r ≡ true)))
+      ∷ row 5 ((DamagedSomewhere l ⊎ (M .damagedFully l ≡ true)) ⊎ (DamagedSomewhere r ⊎ (M .damagedFully r ≡ true)))
       ∷ row 7 (M .size l - live-count M l < needs M (λ k. 1) l r)
       ∷ row 8 (M .bytes l - used M l < needs M (M .weight) l r) ∷ []
 

@@ -9,7 +9,7 @@ use Rattle.model.specs.Slots.{live, holds, pairs}
 use Rattle.model.specs.Finite.{Finite, contains, mass, len, empty, insert, remove, union-prefer-right, insertAll}
 use Rattle.model.specs.Store.{Store, pathLength}
 use Rattle.model.specs.Calls.{no, ok, occupied, vacant, on-occupied, on-vacant, entry}
-use Rattle.model.specs.Machine.{Own, makes, clears, capacities, lens, empties, reserves, gets, contains-keys, removes, entries, inserts, occupied-gets, occupied-removes, occupied-sets, vacant-inserts, or-inserts, insert-entries, Call, own, copies, unions, steps, Answer, refused, fine, number, truth, seen, spot, value, paced, World, placed, answer, turned}
+use Rattle.model.specs.Machine.{Own, makes, clears, capacities, lens, empties, reserves, gets, contains-keys, removes, entries, inserts, occupied-gets, occupied-removes, occupied-sets, vacant-inserts, or-inserts, insert-entries, Call, own, copies, unions, steps, Answer, refused, fine, number, truth, seen, spot, value, stepped, World, placed, answer, turned}
 
 -- Whether an answer is a refusal.
 unfoldable pub refuses : {K W : Type 0} → Answer K W → Bool
@@ -20,7 +20,7 @@ refuses (truth b) = false
 refuses (seen s) = false
 refuses (spot s) = false
 refuses (value v) = false
-refuses (paced p) = false
+refuses (stepped p) = false
 
 module _ {K W : Type 0} (M : Store K W) where
   -- The keys with one more.
@@ -91,8 +91,8 @@ module _ {K W : Type 0} (M : Store K W) where
   becomes w e x c = placed e x (cond (refuses (answer M w x c)) (e x) (next w e x c))
 
   -- Whether an occupied handle is good: its slot is live and holds the key.
-  unfoldable pub grips : M .State → ℕ → K → Bool
-  grips m s k = cond (ltb s (M .size m)) (holds (M .keys) k (M .slots m s)) false
+  unfoldable pub holdsNow : M .State → ℕ → K → Bool
+  holdsNow m s k = cond (ltb s (M .size m)) (holds (M .keys) k (M .slots m s)) false
 
   -- The key that a lookup asks for.
   unfoldable pub keyOf : Own K W → Option K

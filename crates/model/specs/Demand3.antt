@@ -4,10 +4,10 @@ use mathlib.Core.Bool.{Bool, true, false, cond, not, _&&_}
 use mathlib.Core.List.{List, [], _∷_, _++_}
 use mathlib.Core.Option.{Option, none, some}
 use mathlib.Core.Path.{_≡_}
-use Rattle.model.specs.Slots.{Table, Keys, bad, live, count, look}
+use Rattle.model.specs.Slots.{Table, Keys, damaged, live, count, look}
 use Rattle.model.specs.Finite.{Finite, isSome, len}
 use Rattle.model.specs.Calls.{Or, no, ok}
-use Rattle.model.specs.Walk.{Paced, pair, nothing, done, step, movedBy}
+use Rattle.model.specs.Walk.{StepAnswer, pair, nothing, done, step, movedBy}
 
 -- What a machine of one walked table is.
 pub record Machine (K W : Type 0) : Type 1 where
@@ -30,7 +30,7 @@ pub record Machine (K W : Type 0) : Type 1 where
   pub ticket : State → Ticket
   pub bar : State → Ticket → ℕ
   -- what a step answers, of a walk with this ticket that stands there
-  pub answers : State → Ticket → ℕ → Step → Or (Paced K W)
+  pub answers : State → Ticket → ℕ → Step → Or (StepAnswer K W)
 
 -- What happens between a walk's start and its end: steps of the walk, and calls.
 pub data Event (S C : Type 0) : Type 0 where
@@ -38,19 +38,19 @@ pub data Event (S C : Type 0) : Type 0 where
   calls : C → Event S C
 
 -- Whether a step handed out the key.
-unfoldable pub handsOut : {K W : Type 0} → Keys K → K → Or (Paced K W) → ℕ
+unfoldable pub handsOut : {K W : Type 0} → Keys K → K → Or (StepAnswer K W) → ℕ
 handsOut E k (no n) = 0
 handsOut E k (ok (pair a v x n)) = cond (E .same k a) 1 0
 handsOut E k (ok (nothing x n)) = 0
 handsOut E k (ok (done x)) = 0
 
 -- Whether a step was not refused.
-unfoldable pub unrefused : {K W : Type 0} → Or (Paced K W) → ℕ
+unfoldable pub unrefused : {K W : Type 0} → Or (StepAnswer K W) → ℕ
 unrefused (no n) = 0
 unrefused (ok a) = 1
 
 -- The pair that a step handed out.
-unfoldable pub pairFrom : {K W : Type 0} → Or (Paced K W) → List (K × W)
+unfoldable pub pairFrom : {K W : Type 0} → Or (StepAnswer K W) → List (K × W)
 pairFrom (no n) = []
 pairFrom (ok (pair a v x n)) = (a, v) ∷ []
 pairFrom (ok (nothing x n)) = []
@@ -126,13 +126,13 @@ module _ {K W : Type 0} (M : Machine K W) where
     pub apart : (es fs : Run) (b c : M .Step) (k : K) (v u : W) (y n z i : ℕ) → lasts x es ≡ true → lasts (stateAfter x es) fs ≡ true → M .answers (stateAfter x es) (M .ticket x) (walkAfter x (M .ticket x) 0 es) b ≡ ok (pair k v y n) → M .answers (stateAfter (stateAfter x es) fs) (M .ticket x) (walkAfter (stateAfter x es) (M .ticket x) y fs) c ≡ ok (pair k u z i) → stays k (stateAfter x es) fs ≡ false
 
 -- What a machine owes: in fine states slots stand behind the map; none is damaged and each live key stands once; a call after which the map is known keeps states fine, and, where it does not wipe, moves no key that is still there; a step answers by its slots.
-pub record Orderly {K W : Type 0} (M : Machine K W) : Type 1 where
-  pub Fine : M .State → Type 0
+pub record LawfulMachine {K W : Type 0} (M : Machine K W) : Type 1 where
+  pub SoundState : M .State → Type 0
   pub table : M .State → Table K W
-  pub shows : (x : M .State) → Fine x → (k : K) → look (M .keys) (table x) (M .size) k ≡ lookIn (M .map x) k
-  pub counts : (x : M .State) → Fine x → (f : Finite K W) → M .map x ≡ some f → count (table x) (M .size) ≡ len f
-  pub whole : (x : M .State) → Fine x → (i : ℕ) → i < M .size → table x i ≡ bad → ⊥
-  pub once : (x : M .State) → Fine x → (i j : ℕ) (k : K) (v w : W) → i < M .size → j < M .size → table x i ≡ live k v → table x j ≡ live k w → i ≡ j
-  pub after-fine : (x : M .State) (c : M .Call) → Fine x → isSome (M .map (M .after x c)) ≡ true → Fine (M .after x c)
-  pub stands : (x : M .State) (c : M .Call) → Fine x → isSome (M .map (M .after x c)) ≡ true → M .wipes x c ≡ false → (i : ℕ) (k : K) (v w : W) → i < M .size → table x i ≡ live k v → lookIn (M .map (M .after x c)) k ≡ some w → table (M .after x c) i ≡ live k w
-  pub paces : (x : M .State) → Fine x → (q : M .Ticket) (w : ℕ) (b : M .Step) → M .answers x q w b ≡ step (M .size) (table x) (M .bar x q) w (M .budget b)
+  pub shows : (x : M .State) → SoundState x → (k : K) → look (M .keys) (table x) (M .size) k ≡ lookIn (M .map x) k
+  pub counts : (x : M .State) → SoundState x → (f : Finite K W) → M .map x ≡ some f → count (table x) (M .size) ≡ len f
+  pub whole : (x : M .State) → SoundState x → (i : ℕ) → i < M .size → table x i ≡ damaged → ⊥
+  pub once : (x : M .State) → SoundState x → (i j : ℕ) (k : K) (v w : W) → i < M .size → j < M .size → table x i ≡ live k v → table x j ≡ live k w → i ≡ j
+  pub after-sound : (x : M .State) (c : M .Call) → SoundState x → isSome (M .map (M .after x c)) ≡ true → SoundState (M .after x c)
+  pub stands : (x : M .State) (c : M .Call) → SoundState x → isSome (M .map (M .after x c)) ≡ true → M .wipes x c ≡ false → (i : ℕ) (k : K) (v w : W) → i < M .size → table x i ≡ live k v → lookIn (M .map (M .after x c)) k ≡ some w → table (M .after x c) i ≡ live k w
+  pub paces : (x : M .State) → SoundState x → (q : M .Ticket) (w : ℕ) (b : M .Step) → M .answers x q w b ≡ step (M .size) (table x) (M .bar x q) w (M .budget b)

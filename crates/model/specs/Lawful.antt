@@ -3,7 +3,7 @@ use Prim.Native.Nat.{ℕ, _+_, _≤_, _<_}
 use mathlib.Core.Bool.{true, false}
 use mathlib.Core.Path.{_≡_}
 use Rattle.model.specs.Slots.{freed, live, Table, put, made, frees, look}
-use Rattle.model.specs.Sound.{Sound}
+use Rattle.model.specs.Sound.{SoundSlots}
 use Rattle.model.specs.Store.{Store, used}
 use Rattle.model.specs.Finite.{Finite, Proper}
 
@@ -21,7 +21,7 @@ pub record Lawful {K W : Type 0} (M : Store K W) : Type 1 where
   -- a home slot is below S
   pub homes : (m : M .State) (k : K) → M .sized m ≡ true → M .home m k < M .size m
   -- a sound memory is not refused for damage
-  pub unharmed : (m : M .State) → M .sized m ≡ true → M .good m → Sound (M .size m) (M .home m) (M .slots m) → M .harmed m ≡ false
+  pub unharmed : (m : M .State) → M .sized m ≡ true → M .good m → SoundSlots (M .size m) (M .home m) (M .slots m) → M .damagedFully m ≡ false
   -- the live keys fit the arena
   pub within : (m : M .State) → M .sized m ≡ true → M .good m → used M m ≤ M .bytes m
   -- over changes the value of a live slot, and nothing else
@@ -36,18 +36,18 @@ pub record Lawful {K W : Type 0} (M : Store K W) : Type 1 where
 -- What a store owes on any memory without damage: a value written over, and a key put into a free slot where its bytes fit, change the slots as they should and do no damage.
 pub record Steady {K W : Type 0} (M : Store K W) : Type 0 where
   pub homes : (m : M .State) (k : K) → M .sized m ≡ true → M .home m k < M .size m
-  pub room : (m : M .State) → M .sized m ≡ true → M .harmed m ≡ false → used M m ≤ M .bytes m
-  pub over-steady : (m : M .State) (i : ℕ) (k : K) (v w : W) → M .sized m ≡ true → M .harmed m ≡ false → i < M .size m → M .slots m i ≡ live k w → Wrote M (λ n. M .harmed n ≡ false) m (M .over m i v) (put (M .slots m) i (live k v))
-  pub fill-steady : (m : M .State) (i : ℕ) (k : K) (v : W) → M .sized m ≡ true → M .harmed m ≡ false → i < M .size m → frees (M .slots m i) ≡ true → used M m + M .weight k ≤ M .bytes m → Wrote M (λ n. M .harmed n ≡ false) m (M .fill m i k v) (put (M .slots m) i (live k v))
+  pub room : (m : M .State) → M .sized m ≡ true → M .damagedFully m ≡ false → used M m ≤ M .bytes m
+  pub over-steady : (m : M .State) (i : ℕ) (k : K) (v w : W) → M .sized m ≡ true → M .damagedFully m ≡ false → i < M .size m → M .slots m i ≡ live k w → Wrote M (λ n. M .damagedFully n ≡ false) m (M .over m i v) (put (M .slots m) i (live k v))
+  pub fill-steady : (m : M .State) (i : ℕ) (k : K) (v : W) → M .sized m ≡ true → M .damagedFully m ≡ false → i < M .size m → frees (M .slots m i) ≡ true → used M m + M .weight k ≤ M .bytes m → Wrote M (λ n. M .damagedFully n ≡ false) m (M .fill m i k v) (put (M .slots m) i (live k v))
 
 -- A sound memory: right sizes, good, and sound slots.
-pub record Healthy {K W : Type 0} (M : Store K W) (m : M .State) : Type 0 where
+pub record SoundTable {K W : Type 0} (M : Store K W) (m : M .State) : Type 0 where
   pub sized : M .sized m ≡ true
   pub good : M .good m
-  pub sound : Sound (M .size m) (M .home m) (M .slots m)
+  pub sound : SoundSlots (M .size m) (M .home m) (M .slots m)
 
 -- A sound memory whose live slots are the finite map f.
 pub record Shows {K W : Type 0} (M : Store K W) (m : M .State) (f : Finite K W) : Type 0 where
-  pub healthy : Healthy M m
+  pub soundTable : SoundTable M m
   pub looks : (k : K) → look (M .keys) (M .slots m) (M .size m) k ≡ f .look k
   pub proper : Proper (M .keys) f

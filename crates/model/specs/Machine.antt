@@ -4,7 +4,7 @@ use mathlib.Core.Bool.{Bool, cond}
 use lib.Dec.{eqb}
 use Rattle.model.specs.Store.{Store}
 use Rattle.model.specs.Calls.{Or, no, ok, need, Seen, Spot, Handle, get, entry, after-insert, remove, after-remove, capacity, after-make, length, reserve, copy, after-copy, union, after-union, occupied-get, after-set, occupied-remove, after-drop, vacant-insert, after-fill, or-insert, after-or-insert, insert-entry, after-insert-entry}
-use Rattle.model.specs.Walk.{Paced, step}
+use Rattle.model.specs.Walk.{StepAnswer, step}
 
 -- The published calls on one table, but walk steps: one constructor for each.
 pub data Own (K W : Type 0) : Type 0 where
@@ -31,7 +31,7 @@ pub data Answer (K W : Type 0) : Type 0 where
   seen : Seen W → Answer K W
   spot : Spot W → Answer K W
   value : W → Answer K W
-  paced : Paced K W → Answer K W
+  stepped : StepAnswer K W → Answer K W
 
 -- An answer of any call, by what it says where nothing is refused.
 unfoldable pub report : {A K W : Type 0} → (A → Answer K W) → Or A → Answer K W
@@ -88,7 +88,7 @@ module _ {K W : Type 0} (M : Store K W) where
   leaves m (insert-entries h k v) = after-insert-entry M m h k v
 
   -- A step of a walk.
-  unfoldable pub stepping : M .State → ℕ → ℕ → Or (Paced K W)
+  unfoldable pub stepping : M .State → ℕ → ℕ → Or (StepAnswer K W)
   stepping m a b = need (M .sized m) 1 (step (M .size m) (M .slots m) 0 a b)
 
   -- The answer of a call on the table x.
@@ -96,7 +96,7 @@ module _ {K W : Type 0} (M : Store K W) where
   answer w x (own c) = tells (w x) c
   answer w x (copies y) = report (λ u. fine) (copy M (w x) (w y))
   answer w x (unions y) = report (λ u. fine) (union M (w x) (w y))
-  answer w x (steps a b) = report paced (stepping (w x) a b)
+  answer w x (steps a b) = report stepped (stepping (w x) a b)
 
   -- The memory of the table x after a call on it.
   unfoldable pub left : World M → ℕ → Call K W → M .State

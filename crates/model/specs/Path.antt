@@ -2,7 +2,7 @@
 use Prim.Native.Nat.{ℕ, zero, suc, _+_, _-_}
 use mathlib.Core.Bool.{Bool, true, false, cond}
 use lib.Dec.{ltb}
-use Rattle.model.specs.Slots.{Slot, never, freed, bad, live, Table, Keys, frees}
+use Rattle.model.specs.Slots.{Slot, never, freed, damaged, live, Table, Keys, frees}
 
 -- The first of the g numbers from n on that passes the test, else the number after them.
 unfoldable pub from : (ℕ → Bool) → ℕ → ℕ → ℕ
@@ -17,20 +17,20 @@ at S h n = cond (ltb (h + n) S) (h + n) (h + n - S)
 unfoldable pub stops : {K W : Type 0} → Keys K → K → Slot K W → Bool
 stops E k never = true
 stops E k freed = false
-stops E k bad = true
+stops E k damaged = true
 stops E k (live a v) = E .same k a
 
 -- What a path found: the key n places from home; its absence, the examined number and the place of the first free slot (S: none); or damage.
 pub data Find (W : Type 0) : Type 0 where
   hit : ℕ → W → Find W
   miss : ℕ → ℕ → Find W
-  hurt : Find W
+  damage : Find W
 
 -- What the slot at place n, where the path ended, says.
 unfoldable pub ends : {K W : Type 0} → ℕ → ℕ → Slot K W → Find W
 ends n f never = miss (suc n) f
 ends n f freed = miss (suc n) f
-ends n f bad = hurt
+ends n f damaged = damage
 ends n f (live a v) = hit n v
 
 -- The place where the path of k ends, S where S slots were examined.
@@ -56,7 +56,7 @@ firstFree S f n = cond (ltb f S) f n
 unfoldable pub onSlot : {K W : Type 0} → Keys K → ℕ → K → ℕ → ℕ → Slot K W → (ℕ → Find W) → Find W
 onSlot E S k n f never rest = miss (suc n) (firstFree S f n)
 onSlot E S k n f freed rest = rest (firstFree S f n)
-onSlot E S k n f bad rest = hurt
+onSlot E S k n f damaged rest = damage
 onSlot E S k n f (live a v) rest = cond (E .same k a) (hit n v) (rest f)
 
 -- The same path slot by slot: g slots are left, n were examined, f is the first free place so far.

@@ -5,7 +5,7 @@ use mathlib.Core.List.{List, [], _∷_}
 use mathlib.Core.Path.{_≡_}
 use lib.Dec.{ltb}
 use Rattle.model.specs.Slots.{live, pairs}
-use Rattle.model.specs.Path.{Find, hit, miss, hurt}
+use Rattle.model.specs.Path.{Find, hit, miss, damage}
 use Rattle.model.specs.Store.{Store, path, slotAt, used}
 use Rattle.model.specs.Calls.{Or, no, ok, Seen, found, absent, Spot, occupied, vacant, Handle, on-occupied, on-vacant, entry, remove, capacity, copy, rule, union, occupied-get, occupied-remove, vacancy}
 use Rattle.model.specs.Machine.{Own, makes, clears, capacities, lens, empties, reserves, gets, contains-keys, removes, entries, inserts, occupied-gets, occupied-removes, occupied-sets, vacant-inserts, or-inserts, insert-entries, Call, own, copies, unions, steps, World, left}
@@ -25,8 +25,8 @@ pub record Places {K W : Type 0} (M : Store K W) : Type 1 where
 -- Each write changes only the places that it names.
 pub record Apart {K W : Type 0} (M : Store K W) (P : Places M) : Type 0 where
   pub over-apart : (m : M .State) (i : ℕ) (v : W) (p : P .Place) → P .over-names i p ≡ false → P .word (M .over m i v) p ≡ P .word m p
-  pub fill-apart : (m : M .State) (i : ℕ) (k : K) (v : W) (p : P .Place) → M .sized m ≡ true → M .harmed m ≡ false → i < M .size m → used M m + M .weight k ≤ M .bytes m → P .fill-names m i k p ≡ false → P .word (M .fill m i k v) p ≡ P .word m p
-  pub free-apart : (m : M .State) (i : ℕ) (k : K) (w : W) (p : P .Place) → M .sized m ≡ true → M .harmed m ≡ false → i < M .size m → M .slots m i ≡ live k w → P .free-names m i p ≡ false → P .word (M .free m i) p ≡ P .word m p
+  pub fill-apart : (m : M .State) (i : ℕ) (k : K) (v : W) (p : P .Place) → M .sized m ≡ true → M .damagedFully m ≡ false → i < M .size m → used M m + M .weight k ≤ M .bytes m → P .fill-names m i k p ≡ false → P .word (M .fill m i k v) p ≡ P .word m p
+  pub free-apart : (m : M .State) (i : ℕ) (k : K) (w : W) (p : P .Place) → M .sized m ≡ true → M .damagedFully m ≡ false → i < M .size m → M .slots m i ≡ live k w → P .free-names m i p ≡ false → P .word (M .free m i) p ≡ P .word m p
 
 -- Whether an accepted call names a place; a refused one names none.
 unfoldable pub accepted : {A : Type 0} → Or A → Bool → Bool
@@ -75,7 +75,7 @@ module _ {K W : Type 0} (M : Store K W) (P : Places M) (p : P .Place) where
   unfoldable pub rule-names : M .State → K → Find W → Bool
   rule-names m k (hit n v) = P .over-names (slotAt M m k n) p
   rule-names m k (miss e f) = cond (ltb f (M .size m)) (P .fill-names m (slotAt M m k f) k p) false
-  rule-names m k hurt = false
+  rule-names m k damage = false
 
   -- And for all of them, one after the other.
   unfoldable pub all-names : M .State → List (K × W) → Bool

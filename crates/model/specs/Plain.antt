@@ -2,7 +2,7 @@
 use Prim.Native.Nat.{ℕ, _≤_}
 use mathlib.Core.Bool.{cond}
 use lib.Dec.{ltb}
-use Rattle.model.specs.Slots.{Slot, never, freed, bad, live, Table, Keys, put, made, total}
+use Rattle.model.specs.Slots.{Slot, never, freed, damaged, live, Table, Keys, put, made, total}
 use Rattle.model.specs.Store.{Store}
 
 -- A plain table in memory.
@@ -16,7 +16,7 @@ pub record Plain (K W : Type 0) : Type 0 where
 unfoldable pub revalued : {K W : Type 0} → Slot K W → W → Slot K W
 revalued never v = never
 revalued freed v = freed
-revalued bad v = bad
+revalued damaged v = damaged
 revalued (live a w) v = live a v
 
 -- The table with other slots.
@@ -36,7 +36,7 @@ plain {K} {W} E weight = record {
   sized = λ m. ltb 0 (m .size);
   asked = λ k. 0;
   kept = λ k. 0;
-  harmed = λ m. ltb (m .bytes) (total weight (m .slots) (m .size));
+  damagedFully = λ m. ltb (m .bytes) (total weight (m .slots) (m .size));
   good = λ m. total weight (m .slots) (m .size) ≤ m .bytes;
   over = λ m i v. reslotted m (put (m .slots) i (revalued (m .slots i) v));
   fill = λ m i k v. reslotted m (put (m .slots) i (live k v));

@@ -8,7 +8,7 @@ use lib.Dec.{eqb}
 
 -- A slot was never used, was freed, is damaged, or is live with a key and a value.
 pub data Slot (K W : Type 0) : Type 0 where
-  never freed bad : Slot K W
+  never freed damaged : Slot K W
   live : K → W → Slot K W
 
 -- A table gives each slot number its slot.
@@ -33,28 +33,28 @@ made i = never
 unfoldable pub frees : {K W : Type 0} → Slot K W → Bool
 frees never = true
 frees freed = true
-frees bad = false
+frees damaged = false
 frees (live a v) = false
 
 -- A slot with a mark above 2, or live with a span past the arena.
-unfoldable pub hurts : {K W : Type 0} → Slot K W → Bool
-hurts never = false
-hurts freed = false
-hurts bad = true
-hurts (live a v) = false
+unfoldable pub isDamaged : {K W : Type 0} → Slot K W → Bool
+isDamaged never = false
+isDamaged freed = false
+isDamaged damaged = true
+isDamaged (live a v) = false
 
 -- A slot that is live and holds the key.
 unfoldable pub holds : {K W : Type 0} → Keys K → K → Slot K W → Bool
 holds E k never = false
 holds E k freed = false
-holds E k bad = false
+holds E k damaged = false
 holds E k (live a v) = E .same k a
 
 -- The weight of a slot's key where it is live.
 unfoldable pub weigh : {K W : Type 0} → (K → ℕ) → Slot K W → ℕ
 weigh g never = 0
 weigh g freed = 0
-weigh g bad = 0
+weigh g damaged = 0
 weigh g (live a v) = g a
 
 -- The weights of the live keys of the first n slots: with weight 1 the length, with the keys' lengths `used`.
@@ -67,15 +67,15 @@ abbrev pub count : {K W : Type 0} → Table K W → ℕ → ℕ
 count t n = total (λ k. 1) t n
 
 -- Whether one of the first n slots is damaged.
-unfoldable pub damaged : {K W : Type 0} → Table K W → ℕ → Bool
-damaged t zero = false
-damaged t (suc n) = cond (hurts (t n)) true (damaged t n)
+unfoldable pub anyDamaged : {K W : Type 0} → Table K W → ℕ → Bool
+anyDamaged t zero = false
+anyDamaged t (suc n) = cond (isDamaged (t n)) true (anyDamaged t n)
 
 -- A live slot's pair.
 unfoldable pub pairOf : {K W : Type 0} → Slot K W → List (K × W)
 pairOf never = []
 pairOf freed = []
-pairOf bad = []
+pairOf damaged = []
 pairOf (live a v) = (a, v) ∷ []
 
 -- The live pairs of the first n slots, in slot order.
@@ -87,7 +87,7 @@ pairs t (suc n) = pairs t n ++ pairOf (t n)
 unfoldable pub valueIn : {K W : Type 0} → Keys K → K → Slot K W → Option W → Option W
 valueIn E k never o = o
 valueIn E k freed o = o
-valueIn E k bad o = o
+valueIn E k damaged o = o
 valueIn E k (live a v) o = cond (E .same k a) (some v) o
 
 -- The finite map of a table, over its live slots: the value in the last of the first n slots that holds the key.

@@ -1,7 +1,7 @@
 -- A table's memory by what the calls need of it. Each kind of table gives one such record; the calls are defined once over it.
 use Prim.Native.Nat.{ℕ}
 use mathlib.Core.Bool.{Bool}
-use Rattle.model.specs.Slots.{Table, Keys, total, count, damaged}
+use Rattle.model.specs.Slots.{Table, Keys, total, count, anyDamaged}
 use Rattle.model.specs.Path.{Find, find, at, examined}
 
 -- A kind of table, by what is lent and how calls read and write it.
@@ -26,7 +26,7 @@ pub record Store (K W : Type 0) : Type 1 where
   pub asked : K → ℕ
   pub kept : K → ℕ
   -- the damage that storing calls find by examining every slot
-  pub harmed : State → Bool
+  pub damagedFully : State → Bool
   -- what soundness asks of the memory beyond its slots
   pub good : State → Type 0
   -- the four ways in which calls write: a live slot's value, a free slot's key and value, a live slot freed, all wiped
@@ -57,5 +57,5 @@ module _ {K W : Type 0} (M : Store K W) (m : M .State) where
   used = total (M .weight) (M .slots m) (M .size m)
 
   -- Whether some slot is damaged.
-  unfoldable pub hurtful : Bool
-  hurtful = damaged (M .slots m) (M .size m)
+  unfoldable pub damagedSlots : Bool
+  damagedSlots = anyDamaged (M .slots m) (M .size m)

@@ -5,7 +5,7 @@ use mathlib.Core.List.{List}
 use Prim.Native.Nat.{ℕ}
 use Rattle.answers.specs.declared.Numbers.{Numbers}
 use Rattle.answers.specs.Numbers.{homedNumbers}
-use Rattle.kinds.specs.Told.{Told, Settled, SettledWith}
+use Rattle.kinds.specs.Told.{ToldAndLeft, Settled, SettledWith}
 use Rattle.kinds.proofs.Settled.{settled, settled-with}
 use Rattle.digest.specs.Digest.{digestOf}
 use Rattle.digest.specs.Home.{homedOf}
@@ -25,5 +25,5 @@ pub numbers-settled : {n : Numbers} → Settled (λ r. r) n
 numbers-settled = settled (λ a b p. p)
 
 -- A call that answers numbers and writes: the lent arrays too.
-pub numbers-settled-with : {M : Type 0} {t : Told M} → SettledWith (λ r. r) t
+pub numbers-settled-with : {M : Type 0} {t : ToldAndLeft M} → SettledWith (λ r. r) t
 numbers-settled-with = settled-with (λ a b p. p)

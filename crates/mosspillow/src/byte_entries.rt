@@ -2,7 +2,7 @@
 ghost use mathlib.Core.Path.{_≡_};
 ghost use lib.ListN.{length};
 ghost use Rattle.kinds.specs.Told.{told};
-ghost use Rattle.kinds.specs.Calls.{entryOf, heldOf, setOf, takenOf, standingOf, orInsertOf, insertEntryOf};
+ghost use Rattle.kinds.specs.Calls.{entryOf, heldOf, setOf, takenOf, vacantInsertOf, orInsertOf, insertEntryOf};
 ghost use Rattle.byte_slots.specs.Kinds.{maps};
 ghost use Rattle.byte_slots.specs.Maps.{before, after};
 ghost use Rattle.kinds.specs.Handing.{handleAs};
@@ -120,7 +120,7 @@ pub extern "C" fn moss_byte_map_vacant_insert(
     key: &[u8],
     value: u64,
 ) -> Numbers
-    ensures { λ r. ⌜ told r (after marks offsets lengths values arena) ≡ standingOf maps (before marks offsets lengths values arena) slot (now (key .entry)) value ⌝ }
+    ensures { λ r. ⌜ told r (after marks offsets lengths values arena) ≡ vacantInsertOf maps (before marks offsets lengths values arena) slot (now (key .entry)) value ⌝ }
 {
     let handle = Vacant {
         slot: slot as usize,

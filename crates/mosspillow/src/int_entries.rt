@@ -3,7 +3,7 @@ ghost use mathlib.Core.Path.{_≡_};
 ghost use lib.ListN.{length};
 ghost use Rattle.kinds.specs.Told.{told};
 ghost use Rattle.int_slots.specs.Kinds.{removeEntryOf};
-ghost use Rattle.kinds.specs.Calls.{heldOf, setOf, takenOf, standingOf, entryOf, orInsertOf, insertEntryOf};
+ghost use Rattle.kinds.specs.Calls.{heldOf, setOf, takenOf, vacantInsertOf, entryOf, orInsertOf, insertEntryOf};
 ghost use Rattle.int_slots.specs.Maps.{maps, before, after};
 ghost use Rattle.kinds.specs.Handing.{handleAs};
 use answers::Numbers;
@@ -109,7 +109,7 @@ pub extern "C" fn moss_int_map_vacant_insert(
     key: u64,
     value: u64,
 ) -> Numbers
-    ensures { λ r. ⌜ told r (after marks keys values) ≡ standingOf maps (before marks keys values) slot key value ⌝ }
+    ensures { λ r. ⌜ told r (after marks keys values) ≡ vacantInsertOf maps (before marks keys values) slot key value ⌝ }
 {
     let handle = Vacant {
         slot: slot as usize,

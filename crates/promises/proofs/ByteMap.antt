@@ -11,7 +11,7 @@ use lib.Dec.{eqb}
 use lib.ListN.{length}
 use Rattle.model.specs.Calls.{Or, no, ok, give, Spot, occupied, vacant, Handle, on-occupied, on-vacant, after-insert}
 use Rattle.model.specs.Calls
-use Rattle.model.specs.Machine.{fine, number, truth, seen, spot, value, paced, tells, leaves, answer, left, stepping, World}
+use Rattle.model.specs.Machine.{fine, number, truth, seen, spot, value, stepped, tells, leaves, answer, left, stepping, World}
 use Rattle.model.specs.Lawful.{Lawful}
 use Rattle.model.specs.Demand1.{Least, rows, refusal, numberIn}
 use Rattle.model.specs.Demand2.{keyOf, Book}
@@ -24,25 +24,25 @@ use Rattle.model.proofs.Cases.{clash}
 use Rattle.model.proofs.Iterated.{walk-once}
 use Rattle.model.proofs.Numbered.{step-numbered}
 use Rattle.model.specs.Slots.{live}
-use Rattle.model.specs.Walk.{Paced, pair, nothing, done}
-use Rattle.answers.specs.Said.{doneSaid, countSaid, emptySaid, roomSaid, gotSaid, containedSaid, removedSaid, enteredSaid, storedSaid, heldSaid, swappedSaid, takenSaid, standingSaid, stepSaid, spanHanded}
-use Rattle.answers.proofs.Said.{containedSaid-refusal, countSaid-refusal, doneSaid-refusal, emptySaid-refusal, enteredSaid-refusal, gotSaid-refusal, heldSaid-refusal, storedSaid-refusal, removedSaid-refusal, roomSaid-refusal, standingSaid-refusal, stepSaid-refusal, swappedSaid-refusal, takenSaid-refusal}
+use Rattle.model.specs.Walk.{StepAnswer, pair, nothing, done}
+use Rattle.answers.specs.Said.{doneSaid, countSaid, emptySaid, roomSaid, gotSaid, containedSaid, removedSaid, enteredSaid, storedSaid, heldSaid, swappedSaid, takenSaid, inSlotSaid, stepSaid, spanHanded}
+use Rattle.answers.proofs.Said.{containedSaid-refusal, countSaid-refusal, doneSaid-refusal, emptySaid-refusal, enteredSaid-refusal, gotSaid-refusal, heldSaid-refusal, storedSaid-refusal, removedSaid-refusal, roomSaid-refusal, inSlotSaid-refusal, stepSaid-refusal, swappedSaid-refusal, takenSaid-refusal}
 use Rattle.answers.specs.declared.Numbers.{Numbers}
-use Rattle.kinds.specs.Owed.{refusing, only, keeping, replacing, spanning, standing}
+use Rattle.kinds.specs.Owed.{refusing, only, keeping, replacing, spanning, lookingUp}
 use Rattle.kinds.proofs.Owed.{get-owed, remove-owed, entry-owed, held-owed, taken-owed, filled-owed, length-owed, capacity-owed, reserve-owed, copy-owed, union-owed, step-owed, get-counted, remove-counted, entry-counted, zeros, union-known-owed, looked-inserted, looked-removed, paces-once}
-use Rattle.kinds.specs.Calls.{slotOf, makeOf, capacityOf, lenOf, isEmptyOf, reserveOf, containsOf, copyOf, getOf, removeOf, unionOf, entryOf, heldOf, setOf, takenOf, standingOf, orInsertOf, insertEntryOf}
+use Rattle.kinds.specs.Calls.{slotOf, makeOf, capacityOf, lenOf, isEmptyOf, reserveOf, containsOf, copyOf, getOf, removeOf, unionOf, entryOf, heldOf, setOf, takenOf, vacantInsertOf, orInsertOf, insertEntryOf}
 use Rattle.kinds.specs.Columns.{values}
 use Rattle.kinds.specs.Published.{Linked, ZerosElsewhere, PathCounted, asked, given, Right, ToldInStep, unknown, noted, afterCalls, Step, walkOf}
 use Rattle.kinds.specs.Told.{told}
-use Rattle.kinds.proofs.Columns.{values-orderly}
+use Rattle.kinds.proofs.Columns.{values-lawful}
 use Rattle.kinds.proofs.Published.{reported, lowest-told, refused-same, named-only, lent-zeros, inserted-known, removed-known, told-in-step, told-owed, told-rest, walk-told, iterated-told, heard-step}
 use Rattle.kinds.specs.Moved.{movedOn}
-use Rattle.byte_slots.specs.Memory.{Strings, part, usedOf, askedOf, offsetAt, lengthAt}
+use Rattle.byte_slots.specs.Memory.{ByteMemory, part, usedOf, askedOf, offsetAt, lengthAt}
 use Rattle.byte_slots.specs.Kinds.{maps, insertOf, stepOf}
 use Rattle.byte_slots.specs.Places.{Place, wordIn, places}
 use Rattle.byte_slots.proofs.Keys.{asked-bar, kept-bar}
-use Rattle.byte_slots.proofs.Lawful.{strings-lawful}
-use Rattle.byte_slots.proofs.Places.{strings-steady, strings-apart}
+use Rattle.byte_slots.proofs.Lawful.{byte-lawful}
+use Rattle.byte_slots.proofs.Places.{byte-steady, byte-apart}
 use Rattle.byte_map_entry.specs.Calls.{handleOf}
 use Rattle.promises.proofs.Spans.{handed-slot, fresh-bytes, used-told}
 use Rattle.promises.specs.ByteMap.{Call, make, clear, capacity, len, is-empty, reserve, get, contains-key, remove, entry, copy, union-prefer-right, insert, occupied-get, occupied-remove, occupied-remove-entry, step, occupied-set, vacant-insert, or-insert, insert-entry, told-by, meant, published, pairTold, Owes, heard, lent-by, owed, Stands}
@@ -50,11 +50,11 @@ use Rattle.promises.specs.MapAlphabet.{mapMeant}
 
 -- Byte maps are a lawful store.
 pub maps-lawful : Lawful maps
-maps-lawful = strings-lawful values values-orderly
+maps-lawful = byte-lawful values values-lawful
 
 -- Each published call tells the refusal of the theory's call.
 number-told : (w : World maps) (x : ℕ) (c : Call) → told-by w x c .numbers .refusal ≡ refusal (answer maps w x (meant w x c))
-unfolding told-by meant mapMeant answer tells left leaves makeOf capacityOf lenOf isEmptyOf reserveOf containsOf copyOf getOf removeOf unionOf entryOf heldOf setOf takenOf standingOf orInsertOf insertEntryOf insertOf stepOf refusal
+unfolding told-by meant mapMeant answer tells left leaves makeOf capacityOf lenOf isEmptyOf reserveOf containsOf copyOf getOf removeOf unionOf entryOf heldOf setOf takenOf vacantInsertOf orInsertOf insertEntryOf insertOf stepOf refusal
 number-told w x make = doneSaid-refusal _ ∙ sym (reported (λ n. fine) (λ a. refl) _)
 number-told w x clear = doneSaid-refusal _ ∙ sym (reported (λ n. fine) (λ a. refl) _)
 number-told w x capacity = countSaid-refusal _ ∙ sym (reported number (λ a. refl) _)
@@ -71,15 +71,15 @@ number-told w x (insert k v) = storedSaid-refusal _ _ ∙ sym (reported spot (λ
 number-told w x (occupied-get s k) = heldSaid-refusal s _ ∙ sym (reported value (λ a. refl) _)
 number-told w x (occupied-remove s k) = takenSaid-refusal _ ∙ sym (reported value (λ a. refl) _)
 number-told w x (occupied-remove-entry s k) = takenSaid-refusal _ ∙ sym (reported value (λ a. refl) _)
-number-told w x (step at budget) = stepSaid-refusal (spanHanded (offsetAt (w x .spans)) (lengthAt (w x .spans))) (λ k v p e. refl) at _ ∙ sym (reported paced (λ a. refl) _)
+number-told w x (step at budget) = stepSaid-refusal (spanHanded (offsetAt (w x .spans)) (lengthAt (w x .spans))) (λ k v p e. refl) at _ ∙ sym (reported stepped (λ a. refl) _)
 number-told w x (occupied-set s k v) = swappedSaid-refusal s _ ∙ sym (reported value (λ a. refl) _)
-number-told w x (vacant-insert s k v) = standingSaid-refusal s _ ∙ sym (reported value (λ a. refl) _)
-number-told w x (or-insert e k v) = standingSaid-refusal _ _ ∙ sym (reported value (λ a. refl) _)
-number-told w x (insert-entry e k v) = standingSaid-refusal _ _ ∙ sym (reported value (λ a. refl) _)
+number-told w x (vacant-insert s k v) = inSlotSaid-refusal s _ ∙ sym (reported value (λ a. refl) _)
+number-told w x (or-insert e k v) = inSlotSaid-refusal _ _ ∙ sym (reported value (λ a. refl) _)
+number-told w x (insert-entry e k v) = inSlotSaid-refusal _ _ ∙ sym (reported value (λ a. refl) _)
 
 -- And leaves its memory.
 memory-told : (w : World maps) (x : ℕ) (c : Call) → told-by w x c .memory ≡ left maps w x (meant w x c)
-unfolding told-by meant mapMeant answer tells left leaves makeOf capacityOf lenOf isEmptyOf reserveOf containsOf copyOf getOf removeOf unionOf entryOf heldOf setOf takenOf standingOf orInsertOf insertEntryOf insertOf stepOf
+unfolding told-by meant mapMeant answer tells left leaves makeOf capacityOf lenOf isEmptyOf reserveOf containsOf copyOf getOf removeOf unionOf entryOf heldOf setOf takenOf vacantInsertOf orInsertOf insertEntryOf insertOf stepOf
 memory-told w x make = refl
 memory-told w x clear = refl
 memory-told w x capacity = refl
@@ -118,7 +118,7 @@ maps-linked = record { number = number-told; memory = memory-told; hears = steps
 
 -- Where the map of a call's table is known, the call tells what it owes.
 owes-told : (s : Book maps) → Right maps published s → (x : ℕ) (c : Call) (f : Finite (List ℕ) ℕ) → s .maps x ≡ some f → Owes s x f c (told-by (s .world) x c .numbers)
-unfolding told-by makeOf capacityOf lenOf isEmptyOf reserveOf getOf containsOf insertOf removeOf copyOf unionOf stepOf entryOf setOf orInsertOf insertEntryOf heldOf takenOf standingOf Calls.or-insert Calls.insert-entry doneSaid countSaid emptySaid roomSaid gotSaid containedSaid removedSaid enteredSaid storedSaid heldSaid swappedSaid takenSaid standingSaid stepSaid slotOf give keeping replacing
+unfolding told-by makeOf capacityOf lenOf isEmptyOf reserveOf getOf containsOf insertOf removeOf copyOf unionOf stepOf entryOf setOf orInsertOf insertEntryOf heldOf takenOf vacantInsertOf Calls.or-insert Calls.insert-entry doneSaid countSaid emptySaid roomSaid gotSaid containedSaid removedSaid enteredSaid storedSaid heldSaid swappedSaid takenSaid inSlotSaid stepSaid slotOf give keeping replacing
 owes-told s h x make f e = capacity-owed maps maps-lawful (s .world x) f (h x f e) doneSaid (only 1) refl
 owes-told s h x clear f e = capacity-owed maps maps-lawful (s .world x) f (h x f e) doneSaid (only 1) refl
 owes-told s h x capacity f e = capacity-owed maps maps-lawful (s .world x) f (h x f e) countSaid _ refl
@@ -134,23 +134,23 @@ owes-told s h x (union-prefer-right y) f e = (
   union-owed maps maps-lawful (s .world x) f (h x f e) doneSaid (only 1) (λ n. refl) refl (s .world y),
   (λ g t. union-known-owed maps maps-lawful (s .world x) f (h x f e) doneSaid (only 1) (λ n. refl) refl (s .world y) g (h y g t)),
 )
-owes-told s h x (insert k v) f e = entry-owed maps maps-lawful (s .world x) f (h x f e) (storedSaid (usedOf (s .world x .spans))) _ _ (λ n. refl) (λ v i e. refl) (λ i d. ap (λ u. spanning 9 i d u 0) (used-told values values-orderly (s .world x) f (h x f e))) k
+owes-told s h x (insert k v) f e = entry-owed maps maps-lawful (s .world x) f (h x f e) (storedSaid (usedOf (s .world x .spans))) _ _ (λ n. refl) (λ v i e. refl) (λ i d. ap (λ u. spanning 9 i d u 0) (used-told values values-lawful (s .world x) f (h x f e))) k
 owes-told s h x (occupied-get i k) f e = held-owed maps maps-lawful (s .world x) f (h x f e) (heldSaid i) _ (λ n. refl) (λ v. refl) i k
 owes-told s h x (occupied-remove i k) f e = taken-owed maps maps-lawful (s .world x) f (h x f e) takenSaid _ (λ n. refl) (λ v. refl) i k
 owes-told s h x (occupied-remove-entry i k) f e = taken-owed maps maps-lawful (s .world x) f (h x f e) takenSaid _ (λ n. refl) (λ v. refl) i k
 owes-told s h x (step a b) f e = step-owed maps maps-lawful (s .world x) f (h x f e) (stepSaid (spanHanded (offsetAt (s .world x .spans)) (lengthAt (s .world x .spans))) a) a b (pairTold (s .world x)) (λ n. refl) (λ j k v e q. let z : suc j - 1 ≡ j = omega arith in rw z) (λ y e. refl) (λ y. refl)
 owes-told s h x (occupied-set i k v) f e = held-owed maps maps-lawful (s .world x) f (h x f e) (swappedSaid i) _ (λ n. refl) (λ v. refl) i k
-owes-told s h x (vacant-insert i k v) f e = filled-owed maps maps-lawful (s .world x) f (h x f e) (standingSaid i) v _ (λ n. refl) refl i k
+owes-told s h x (vacant-insert i k v) f e = filled-owed maps maps-lawful (s .world x) f (h x f e) (inSlotSaid i) v _ (λ n. refl) refl i k
 owes-told s h x (or-insert a k v) f e = go (handleOf (length (s .world x .spans .marks)) a)
   where
-    go : (o : Handle) → standingSaid (slotOf o) (Calls.or-insert maps (s .world x) o k v) ≡ keeping maps (s .world x) f o k v
-    go (on-occupied i) = held-owed maps maps-lawful (s .world x) f (h x f e) (standingSaid i) _ (λ n. refl) (λ v. refl) i k
-    go (on-vacant i) = filled-owed maps maps-lawful (s .world x) f (h x f e) (standingSaid i) v _ (λ n. refl) refl i k
+    go : (o : Handle) → inSlotSaid (slotOf o) (Calls.or-insert maps (s .world x) o k v) ≡ keeping maps (s .world x) f o k v
+    go (on-occupied i) = held-owed maps maps-lawful (s .world x) f (h x f e) (inSlotSaid i) _ (λ n. refl) (λ v. refl) i k
+    go (on-vacant i) = filled-owed maps maps-lawful (s .world x) f (h x f e) (inSlotSaid i) v _ (λ n. refl) refl i k
 owes-told s h x (insert-entry a k v) f e = go (handleOf (length (s .world x .spans .marks)) a)
   where
-    go : (o : Handle) → standingSaid (slotOf o) (Calls.insert-entry maps (s .world x) o k v) ≡ replacing maps (s .world x) f o k v
-    go (on-occupied i) = held-owed maps maps-lawful (s .world x) f (h x f e) (λ o. standingSaid i (give v o)) _ (λ n. refl) (λ u. refl) i k
-    go (on-vacant i) = filled-owed maps maps-lawful (s .world x) f (h x f e) (standingSaid i) v _ (λ n. refl) refl i k
+    go : (o : Handle) → inSlotSaid (slotOf o) (Calls.insert-entry maps (s .world x) o k v) ≡ replacing maps (s .world x) f o k v
+    go (on-occupied i) = held-owed maps maps-lawful (s .world x) f (h x f e) (λ o. inSlotSaid i (give v o)) _ (λ n. refl) (λ u. refl) i k
+    go (on-vacant i) = filled-owed maps maps-lawful (s .world x) f (h x f e) (inSlotSaid i) v _ (λ n. refl) refl i k
 
 -- At most one answer meets what a call owes.
 pub owes-once : (s : Book maps) (x : ℕ) (f : Finite (List ℕ) ℕ) (c : Call) (n o : Numbers) → Owes s x f c n → Owes s x f c o → n ≡ o
@@ -186,11 +186,11 @@ demand-1-still w x c h = refused-same maps published maps-linked w x c h
 
 -- An accepted call changes no lent place that its rule does not name.
 pub demand-1-named : (w : World maps) (x : ℕ) (c : Call) (p : Place) → names maps (places values) p w x (meant w x c) ≡ false → wordIn values (told-by w x c .memory) p ≡ wordIn values (w x) p
-demand-1-named w x c p e = named-only maps published maps-linked (strings-steady values values-orderly) (places values) (strings-apart values values-orderly) w x c p e
+demand-1-named w x c p e = named-only maps published maps-linked (byte-steady values values-lawful) (places values) (byte-apart values values-lawful) w x c p e
 
 -- A refused call tells its number, zeros elsewhere, and the walk as it came.
 refused-zeros : (w : World maps) (x : ℕ) (c : Call) → (told-by w x c .numbers .refusal ≡ 0 → ⊥) → told-by w x c .numbers ≡ refusing (told-by w x c .numbers .refusal) (given (meant w x c))
-unfolding told-by meant mapMeant given makeOf capacityOf lenOf isEmptyOf reserveOf getOf containsOf insertOf removeOf copyOf unionOf stepOf entryOf setOf orInsertOf insertEntryOf heldOf takenOf standingOf doneSaid countSaid emptySaid roomSaid gotSaid containedSaid removedSaid enteredSaid storedSaid heldSaid swappedSaid takenSaid standingSaid stepSaid numberIn
+unfolding told-by meant mapMeant given makeOf capacityOf lenOf isEmptyOf reserveOf getOf containsOf insertOf removeOf copyOf unionOf stepOf entryOf setOf orInsertOf insertEntryOf heldOf takenOf vacantInsertOf doneSaid countSaid emptySaid roomSaid gotSaid containedSaid removedSaid enteredSaid storedSaid heldSaid swappedSaid takenSaid inSlotSaid stepSaid numberIn
 refused-zeros w x make h = zeros doneSaid 0 (λ n. refl) (λ y. refl) (Calls.capacity maps (w x)) h
 refused-zeros w x clear h = zeros doneSaid 0 (λ n. refl) (λ y. refl) (Calls.capacity maps (w x)) h
 refused-zeros w x capacity h = zeros countSaid 0 (λ n. refl) (λ y. refl) (Calls.capacity maps (w x)) h
@@ -209,9 +209,9 @@ refused-zeros w x (occupied-remove i k) h = zeros takenSaid 0 (λ n. refl) (λ y
 refused-zeros w x (occupied-remove-entry i k) h = zeros takenSaid 0 (λ n. refl) (λ y. refl) (Calls.occupied-remove maps (w x) i k) h
 refused-zeros w x (step a b) h = zeros (stepSaid (spanHanded (offsetAt (w x .spans)) (lengthAt (w x .spans))) a) a (λ n. refl) (λ y. stepSaid-refusal (spanHanded (offsetAt (w x .spans)) (lengthAt (w x .spans))) (λ k v p e. refl) a (ok y)) (stepping maps (w x) a b) h
 refused-zeros w x (occupied-set i k v) h = zeros (swappedSaid i) 0 (λ n. refl) (λ y. refl) (Calls.occupied-get maps (w x) i k) h
-refused-zeros w x (vacant-insert i k v) h = zeros (standingSaid i) 0 (λ n. refl) (λ y. refl) (Calls.vacant-insert maps (w x) i k v) h
-refused-zeros w x (or-insert a k v) h = zeros (standingSaid (slotOf (handleOf (length (w x .spans .marks)) a))) 0 (λ n. refl) (λ y. refl) (Calls.or-insert maps (w x) (handleOf (length (w x .spans .marks)) a) k v) h
-refused-zeros w x (insert-entry a k v) h = zeros (standingSaid (slotOf (handleOf (length (w x .spans .marks)) a))) 0 (λ n. refl) (λ y. refl) (Calls.insert-entry maps (w x) (handleOf (length (w x .spans .marks)) a) k v) h
+refused-zeros w x (vacant-insert i k v) h = zeros (inSlotSaid i) 0 (λ n. refl) (λ y. refl) (Calls.vacant-insert maps (w x) i k v) h
+refused-zeros w x (or-insert a k v) h = zeros (inSlotSaid (slotOf (handleOf (length (w x .spans .marks)) a))) 0 (λ n. refl) (λ y. refl) (Calls.or-insert maps (w x) (handleOf (length (w x .spans .marks)) a) k v) h
+refused-zeros w x (insert-entry a k v) h = zeros (inSlotSaid (slotOf (handleOf (length (w x .spans .marks)) a))) 0 (λ n. refl) (λ y. refl) (Calls.insert-entry maps (w x) (handleOf (length (w x .spans .marks)) a) k v) h
 
 -- A refusal tells its number, zeros elsewhere, and the walk as it came, on any memory, lent walks included.
 pub demand-1-zeros : ZerosElsewhere maps published
@@ -247,13 +247,13 @@ demand-2-examined w x (or-insert h a v) k q e = clash cc
 demand-2-examined w x (insert-entry h a v) k q e = clash cc
 
 -- On any memory, where a call tells where a key stands, that part of the arena after it is the key.
-stored-bytes : (m : Strings values) (k : List ℕ) (v : ℕ) (o : Or (Spot ℕ)) → Calls.entry maps m k ≡ o → storedSaid (usedOf (m .spans)) o .case ≡ 9 → part (after-insert maps m k v .spans .arena) (storedSaid (usedOf (m .spans)) o .offset) (length k) ≡ k
+stored-bytes : (m : ByteMemory values) (k : List ℕ) (v : ℕ) (o : Or (Spot ℕ)) → Calls.entry maps m k ≡ o → storedSaid (usedOf (m .spans)) o .case ≡ 9 → part (after-insert maps m k v .spans .arena) (storedSaid (usedOf (m .spans)) o .offset) (length k) ≡ k
 unfolding storedSaid
 stored-bytes m k v (no n) e q = absurd (omega arith)
 stored-bytes m k v (ok (occupied i u d)) e q = absurd (omega arith)
 stored-bytes m k v (ok (vacant i d)) e q = fresh-bytes values m k v i d e
 
-handed-bytes : (m : Strings values) (a b : ℕ) (o : Or (Paced (List ℕ) ℕ)) → stepping maps m a b ≡ o → stepSaid (spanHanded (offsetAt (m .spans)) (lengthAt (m .spans))) a o .case ≡ 14 → maps .slots m (stepSaid (spanHanded (offsetAt (m .spans)) (lengthAt (m .spans))) a o .walk - 1) ≡ live (part (m .spans .arena) (stepSaid (spanHanded (offsetAt (m .spans)) (lengthAt (m .spans))) a o .offset) (stepSaid (spanHanded (offsetAt (m .spans)) (lengthAt (m .spans))) a o .length)) (stepSaid (spanHanded (offsetAt (m .spans)) (lengthAt (m .spans))) a o .value)
+handed-bytes : (m : ByteMemory values) (a b : ℕ) (o : Or (StepAnswer (List ℕ) ℕ)) → stepping maps m a b ≡ o → stepSaid (spanHanded (offsetAt (m .spans)) (lengthAt (m .spans))) a o .case ≡ 14 → maps .slots m (stepSaid (spanHanded (offsetAt (m .spans)) (lengthAt (m .spans))) a o .walk - 1) ≡ live (part (m .spans .arena) (stepSaid (spanHanded (offsetAt (m .spans)) (lengthAt (m .spans))) a o .offset) (stepSaid (spanHanded (offsetAt (m .spans)) (lengthAt (m .spans))) a o .length)) (stepSaid (spanHanded (offsetAt (m .spans)) (lengthAt (m .spans))) a o .value)
 unfolding stepSaid
 handed-bytes m a b (no n) e q = absurd (omega arith)
 handed-bytes m a b (ok (pair k v y d)) e q = let (p, r) = handed-slot values m a b k v y d e in p ∙ ap (λ c. live c v) (sym r)
@@ -290,7 +290,7 @@ told-after-insert s h x f e k v b r =
     let g = noted maps published s x (insert k v) in
     let run = told-in-step maps published maps-linked maps-lawful owed (λ s h x c f e. (owes-told s h x c f e, demand-2-spans (s .world) x c)) ((x, (insert k v)) ∷ (x, get k) ∷ []) s h in
     let o = told-owed maps published maps-linked owed x (get k) [] g (told-rest maps published maps-linked owed x (insert k v) ((x, get k) ∷ []) s run) _ (inserted-known maps published maps-linked s x (insert k v) k v f refl e r) in
-    let q = o .0 ∙ looked-inserted maps (g .world x) f k (λ v i e. standing 6 v i e) (λ e. standing 8 0 0 e) v b in
+    let q = o .0 ∙ looked-inserted maps (g .world x) f k (λ v i e. lookingUp 6 v i e) (λ e. lookingUp 8 0 0 e) v b in
     (ap (λ n. n .case) q, ap (λ n. n .value) q)
 
 pub told-after-remove : (s : Book maps) → Right maps published s → (x : ℕ) (f : Finite (List ℕ) ℕ) → s .maps x ≡ some f → (k : List ℕ) → askedOf k ≡ 0 → told-by (s .world) x (remove k) .numbers .refusal ≡ 0 → told-by (noted maps published s x (remove k) .world) x (get k) .numbers .case ≡ 8
@@ -299,4 +299,4 @@ told-after-remove s h x f e k b r =
     let g = noted maps published s x (remove k) in
     let run = told-in-step maps published maps-linked maps-lawful owed (λ s h x c f e. (owes-told s h x c f e, demand-2-spans (s .world) x c)) ((x, remove k) ∷ (x, get k) ∷ []) s h in
     let o = told-owed maps published maps-linked owed x (get k) [] g (told-rest maps published maps-linked owed x (remove k) ((x, get k) ∷ []) s run) _ (removed-known maps published maps-linked s x (remove k) k f refl e r) in
-    ap (λ n. n .case) (o .0 ∙ looked-removed maps (g .world x) f k (λ v i e. standing 6 v i e) (λ e. standing 8 0 0 e) b)
+    ap (λ n. n .case) (o .0 ∙ looked-removed maps (g .world x) f k (λ v i e. lookingUp 6 v i e) (λ e. lookingUp 8 0 0 e) b)

@@ -10,7 +10,7 @@ use native.Mathlib.Omega.{arith}
 use lib.Dec.{eqb}
 use lib.ListN.{length}
 use Rattle.model.specs.Calls.{ok, Or, no, Seen, found, absent, Spot, occupied, vacant, after-insert}
-use Rattle.model.specs.Machine.{fine, number, truth, seen, spot, paced, tells, leaves, answer, left, stepping, World}
+use Rattle.model.specs.Machine.{fine, number, truth, seen, spot, stepped, tells, leaves, answer, left, stepping, World}
 use Rattle.model.specs.Lawful.{Lawful}
 use Rattle.model.specs.Demand1.{Least, rows, refusal, numberIn}
 use Rattle.model.specs.Demand2.{keyOf, Book}
@@ -24,32 +24,32 @@ use Rattle.model.proofs.Iterated.{walk-once}
 use Rattle.model.proofs.Numbered.{step-numbered}
 use Rattle.model.specs.Slots.{live}
 use Rattle.model.specs.Calls
-use Rattle.model.specs.Walk.{Paced, pair, nothing as none-live, done}
+use Rattle.model.specs.Walk.{StepAnswer, pair, nothing as none-live, done}
 use Rattle.answers.specs.Said.{doneSaid, countSaid, emptySaid, roomSaid, containedSaid, droppedSaid, spannedSaid, joinedSaid, stepSaid, spanOnlyHanded}
 use Rattle.answers.proofs.Said.{containedSaid-refusal, countSaid-refusal, doneSaid-refusal, droppedSaid-refusal, joinedSaid-refusal, emptySaid-refusal, spannedSaid-refusal, roomSaid-refusal, stepSaid-refusal}
 use Rattle.answers.specs.declared.Numbers.{Numbers}
-use Rattle.kinds.specs.Owed.{refusing, only, spanning, standing}
+use Rattle.kinds.specs.Owed.{refusing, only, spanning, lookingUp}
 use Rattle.kinds.proofs.Owed.{get-owed, remove-owed, entry-owed, length-owed, capacity-owed, reserve-owed, copy-owed, step-owed, get-counted, remove-counted, entry-counted, zeros, looked-inserted, looked-removed, paces-once}
 use Rattle.kinds.specs.Columns.{nothing}
 use Rattle.kinds.specs.Published.{Linked, ZerosElsewhere, PathCounted, asked, given, Right, ToldInStep, unknown, noted, afterCalls, Step, walkOf}
 use Rattle.kinds.specs.Told.{told}
-use Rattle.kinds.proofs.Columns.{nothing-orderly}
+use Rattle.kinds.proofs.Columns.{nothing-lawful}
 use Rattle.kinds.proofs.Published.{reported, lowest-told, refused-same, named-only, lent-zeros, inserted-known, removed-known, told-in-step, told-owed, told-rest, walk-told, iterated-told, heard-step}
 use Rattle.kinds.specs.Calls.{makeOf, capacityOf, lenOf, isEmptyOf, reserveOf, containsOf, copyOf, droppedOf}
 use Rattle.kinds.specs.Moved.{movedOn}
-use Rattle.byte_slots.specs.Memory.{Strings, part, usedOf, askedOf, offsetAt, lengthAt}
+use Rattle.byte_slots.specs.Memory.{ByteMemory, part, usedOf, askedOf, offsetAt, lengthAt}
 use Rattle.byte_slots.specs.Kinds.{sets, setInsertOf, setGetOf, setStepOf}
 use Rattle.byte_slots.specs.Places.{Place, wordIn, places}
 use Rattle.byte_slots.proofs.Keys.{asked-bar, kept-bar}
-use Rattle.byte_slots.proofs.Lawful.{strings-lawful}
-use Rattle.byte_slots.proofs.Places.{strings-steady, strings-apart}
+use Rattle.byte_slots.proofs.Lawful.{byte-lawful}
+use Rattle.byte_slots.proofs.Places.{byte-steady, byte-apart}
 use Rattle.promises.proofs.Spans.{found-bytes, handed-slot, fresh-bytes, used-told}
 use Rattle.promises.specs.ByteSet.{Call, make, clear, capacity, len, is-empty, reserve, get, contains, insert, remove, copy, step, told-by, meant, published, keyTold, Owes, heard, lent-by, owed, Stands}
 use Rattle.promises.specs.SetAlphabet.{setMeant}
 
 -- Byte sets are a lawful store.
 pub sets-lawful : Lawful sets
-sets-lawful = strings-lawful nothing nothing-orderly
+sets-lawful = byte-lawful nothing nothing-lawful
 
 -- Each published call tells the refusal of the theory's call.
 number-told : (w : World sets) (x : ℕ) (c : Call) → told-by w x c .numbers .refusal ≡ refusal (answer sets w x (meant w x c))
@@ -65,7 +65,7 @@ number-told w x (contains k) = containedSaid-refusal _ ∙ sym (reported seen (�
 number-told w x (insert k) = joinedSaid-refusal _ _ ∙ sym (reported spot (λ a. refl) _)
 number-told w x (remove k) = droppedSaid-refusal _ ∙ sym (reported seen (λ a. refl) _)
 number-told w x (copy y) = doneSaid-refusal _ ∙ sym (reported (λ u. fine) (λ a. refl) _)
-number-told w x (step at budget) = stepSaid-refusal (spanOnlyHanded (offsetAt (w x .spans)) (lengthAt (w x .spans))) (λ k v p e. refl) at _ ∙ sym (reported paced (λ a. refl) _)
+number-told w x (step at budget) = stepSaid-refusal (spanOnlyHanded (offsetAt (w x .spans)) (lengthAt (w x .spans))) (λ k v p e. refl) at _ ∙ sym (reported stepped (λ a. refl) _)
 
 -- And leaves its memory.
 memory-told : (w : World sets) (x : ℕ) (c : Call) → told-by w x c .memory ≡ left sets w x (meant w x c)
@@ -109,7 +109,7 @@ owes-told s h x (reserve a) f e = reserve-owed sets sets-lawful (s .world x) f (
 owes-told s h x (copy y) f e = copy-owed sets sets-lawful (s .world x) f (h x f e) doneSaid (only 1) (λ n. refl) refl (s .world y)
 owes-told s h x (get k) f e = get-owed sets sets-lawful (s .world x) f (h x f e) (spannedSaid (offsetAt ((s .world x) .spans)) (lengthAt ((s .world x) .spans))) _ _ (λ n. refl) (λ v i e. refl) (λ e. refl) k
 owes-told s h x (contains k) f e = get-owed sets sets-lawful (s .world x) f (h x f e) containedSaid _ _ (λ n. refl) (λ v i e. refl) (λ e. refl) k
-owes-told s h x (insert k) f e = entry-owed sets sets-lawful (s .world x) f (h x f e) (joinedSaid (usedOf (s .world x .spans))) _ _ (λ n. refl) (λ v i e. refl) (λ i d. ap (λ u. spanning 9 i d u 0) (used-told nothing nothing-orderly (s .world x) f (h x f e))) k
+owes-told s h x (insert k) f e = entry-owed sets sets-lawful (s .world x) f (h x f e) (joinedSaid (usedOf (s .world x .spans))) _ _ (λ n. refl) (λ v i e. refl) (λ i d. ap (λ u. spanning 9 i d u 0) (used-told nothing nothing-lawful (s .world x) f (h x f e))) k
 owes-told s h x (remove k) f e = remove-owed sets sets-lawful (s .world x) f (h x f e) droppedSaid _ _ (λ n. refl) (λ v i e. refl) (λ e. refl) k
 owes-told s h x (step a b) f e = step-owed sets sets-lawful (s .world x) f (h x f e) (stepSaid (spanOnlyHanded (offsetAt ((s .world x) .spans)) (lengthAt ((s .world x) .spans))) a) a b (keyTold (s .world x)) (λ n. refl) (λ j k v e q. let z : suc j - 1 ≡ j = omega arith in rw z) (λ y e. refl) (λ y. refl)
 
@@ -138,7 +138,7 @@ demand-1-still w x c h = refused-same sets published sets-linked w x c h
 
 -- An accepted call changes no lent place that its rule does not name.
 pub demand-1-named : (w : World sets) (x : ℕ) (c : Call) (p : Place) → names sets (places nothing) p w x (meant w x c) ≡ false → wordIn nothing (told-by w x c .memory) p ≡ wordIn nothing (w x) p
-demand-1-named w x c p e = named-only sets published sets-linked (strings-steady nothing nothing-orderly) (places nothing) (strings-apart nothing nothing-orderly) w x c p e
+demand-1-named w x c p e = named-only sets published sets-linked (byte-steady nothing nothing-lawful) (places nothing) (byte-apart nothing nothing-lawful) w x c p e
 
 -- A refused call tells its number, zeros elsewhere, and the walk as it came.
 refused-zeros : (w : World sets) (x : ℕ) (c : Call) → (told-by w x c .numbers .refusal ≡ 0 → ⊥) → told-by w x c .numbers ≡ refusing (told-by w x c .numbers .refusal) (given (meant w x c))
@@ -181,19 +181,19 @@ demand-2-examined w x (remove a) k q e = remove-counted sets (w x) a droppedSaid
 demand-2-examined w x (step a b) k q e = clash cc
 
 -- On any memory, where a call tells where a key stands, that part of the arena after it is the key.
-spanned-bytes : (m : Strings nothing) (k : List ℕ) (o : Or (Seen (Unit {0}))) → Calls.get sets m k ≡ o → spannedSaid (offsetAt (m .spans)) (lengthAt (m .spans)) o .case ≡ 6 → part (m .spans .arena) (spannedSaid (offsetAt (m .spans)) (lengthAt (m .spans)) o .offset) (spannedSaid (offsetAt (m .spans)) (lengthAt (m .spans)) o .length) ≡ k
+spanned-bytes : (m : ByteMemory nothing) (k : List ℕ) (o : Or (Seen (Unit {0}))) → Calls.get sets m k ≡ o → spannedSaid (offsetAt (m .spans)) (lengthAt (m .spans)) o .case ≡ 6 → part (m .spans .arena) (spannedSaid (offsetAt (m .spans)) (lengthAt (m .spans)) o .offset) (spannedSaid (offsetAt (m .spans)) (lengthAt (m .spans)) o .length) ≡ k
 unfolding spannedSaid
 spanned-bytes m k (no n) e q = absurd (omega arith)
 spanned-bytes m k (ok (found v i d)) e q = found-bytes nothing m k v i d e
 spanned-bytes m k (ok (absent d)) e q = absurd (omega arith)
 
-joined-bytes : (m : Strings nothing) (k : List ℕ) (o : Or (Spot (Unit {0}))) → Calls.entry sets m k ≡ o → joinedSaid (usedOf (m .spans)) o .case ≡ 9 → part (after-insert sets m k tt .spans .arena) (joinedSaid (usedOf (m .spans)) o .offset) (length k) ≡ k
+joined-bytes : (m : ByteMemory nothing) (k : List ℕ) (o : Or (Spot (Unit {0}))) → Calls.entry sets m k ≡ o → joinedSaid (usedOf (m .spans)) o .case ≡ 9 → part (after-insert sets m k tt .spans .arena) (joinedSaid (usedOf (m .spans)) o .offset) (length k) ≡ k
 unfolding joinedSaid
 joined-bytes m k (no n) e q = absurd (omega arith)
 joined-bytes m k (ok (occupied i u d)) e q = absurd (omega arith)
 joined-bytes m k (ok (vacant i d)) e q = fresh-bytes nothing m k tt i d e
 
-handed-bytes : (m : Strings nothing) (a b : ℕ) (o : Or (Paced (List ℕ) (Unit {0}))) → stepping sets m a b ≡ o → stepSaid (spanOnlyHanded (offsetAt (m .spans)) (lengthAt (m .spans))) a o .case ≡ 14 → sets .slots m (stepSaid (spanOnlyHanded (offsetAt (m .spans)) (lengthAt (m .spans))) a o .walk - 1) ≡ live (part (m .spans .arena) (stepSaid (spanOnlyHanded (offsetAt (m .spans)) (lengthAt (m .spans))) a o .offset) (stepSaid (spanOnlyHanded (offsetAt (m .spans)) (lengthAt (m .spans))) a o .length)) tt
+handed-bytes : (m : ByteMemory nothing) (a b : ℕ) (o : Or (StepAnswer (List ℕ) (Unit {0}))) → stepping sets m a b ≡ o → stepSaid (spanOnlyHanded (offsetAt (m .spans)) (lengthAt (m .spans))) a o .case ≡ 14 → sets .slots m (stepSaid (spanOnlyHanded (offsetAt (m .spans)) (lengthAt (m .spans))) a o .walk - 1) ≡ live (part (m .spans .arena) (stepSaid (spanOnlyHanded (offsetAt (m .spans)) (lengthAt (m .spans))) a o .offset) (stepSaid (spanOnlyHanded (offsetAt (m .spans)) (lengthAt (m .spans))) a o .length)) tt
 unfolding stepSaid
 handed-bytes m a b (no n) e q = absurd (omega arith)
 handed-bytes m a b (ok (pair k v y d)) e q = let (p, r) = handed-slot nothing m a b k v y d e in p ∙ ap (λ c. live c v) (sym r)
@@ -231,7 +231,7 @@ told-after-insert s h x f e k b r =
     let g = noted sets published s x (insert k) in
     let run = told-in-step sets published sets-linked sets-lawful owed (λ s h x c f e. (owes-told s h x c f e, demand-2-spans (s .world) x c)) ((x, (insert k)) ∷ (x, contains k) ∷ []) s h in
     let o = told-owed sets published sets-linked owed x (contains k) [] g (told-rest sets published sets-linked owed x (insert k) ((x, contains k) ∷ []) s run) _ (inserted-known sets published sets-linked s x (insert k) k tt f refl e r) in
-    let q = o .0 ∙ looked-inserted sets (g .world x) f k (λ v i e. standing 7 0 0 e) (λ e. standing 8 0 0 e) tt b in
+    let q = o .0 ∙ looked-inserted sets (g .world x) f k (λ v i e. lookingUp 7 0 0 e) (λ e. lookingUp 8 0 0 e) tt b in
     ap (λ n. n .case) q
 
 pub told-after-remove : (s : Book sets) → Right sets published s → (x : ℕ) (f : Finite (List ℕ) (Unit {0})) → s .maps x ≡ some f → (k : List ℕ) → askedOf k ≡ 0 → told-by (s .world) x (remove k) .numbers .refusal ≡ 0 → told-by (noted sets published s x (remove k) .world) x (contains k) .numbers .case ≡ 8
@@ -240,4 +240,4 @@ told-after-remove s h x f e k b r =
     let g = noted sets published s x (remove k) in
     let run = told-in-step sets published sets-linked sets-lawful owed (λ s h x c f e. (owes-told s h x c f e, demand-2-spans (s .world) x c)) ((x, remove k) ∷ (x, contains k) ∷ []) s h in
     let o = told-owed sets published sets-linked owed x (contains k) [] g (told-rest sets published sets-linked owed x (remove k) ((x, contains k) ∷ []) s run) _ (removed-known sets published sets-linked s x (remove k) k f refl e r) in
-    ap (λ n. n .case) (o .0 ∙ looked-removed sets (g .world x) f k (λ v i e. standing 7 0 0 e) (λ e. standing 8 0 0 e) b)
+    ap (λ n. n .case) (o .0 ∙ looked-removed sets (g .world x) f k (λ v i e. lookingUp 7 0 0 e) (λ e. lookingUp 8 0 0 e) b)

@@ -11,7 +11,7 @@ use lib.Dec.{eqb}
 use lib.ListN.{length}
 use Rattle.model.specs.Calls.{ok, give, union, Handle, on-occupied, on-vacant}
 use Rattle.model.specs.Calls
-use Rattle.model.specs.Machine.{fine, number, truth, seen, spot, value, paced, tells, leaves, answer, left, stepping, World}
+use Rattle.model.specs.Machine.{fine, number, truth, seen, spot, value, stepped, tells, leaves, answer, left, stepping, World}
 use Rattle.model.specs.Lawful.{Lawful}
 use Rattle.model.specs.Demand1.{Least, rows, refusal, numberIn}
 use Rattle.model.specs.Demand2.{keyOf, Book}
@@ -23,21 +23,21 @@ use Rattle.model.specs.Places.{names}
 use Rattle.model.proofs.Cases.{clash}
 use Rattle.model.proofs.Iterated.{walk-once}
 use Rattle.model.proofs.Numbered.{step-numbered}
-use Rattle.answers.specs.Said.{doneSaid, countSaid, emptySaid, roomSaid, gotSaid, containedSaid, removedSaid, enteredSaid, insertedSaid, heldSaid, swappedSaid, takenSaid, takenEntrySaid, standingSaid, stepSaid, pairHanded}
-use Rattle.answers.proofs.Said.{containedSaid-refusal, countSaid-refusal, doneSaid-refusal, emptySaid-refusal, enteredSaid-refusal, gotSaid-refusal, heldSaid-refusal, insertedSaid-refusal, removedSaid-refusal, roomSaid-refusal, standingSaid-refusal, stepSaid-refusal, swappedSaid-refusal, takenEntrySaid-refusal, takenSaid-refusal}
+use Rattle.answers.specs.Said.{doneSaid, countSaid, emptySaid, roomSaid, gotSaid, containedSaid, removedSaid, enteredSaid, insertedSaid, heldSaid, swappedSaid, takenSaid, takenEntrySaid, inSlotSaid, stepSaid, pairHanded}
+use Rattle.answers.proofs.Said.{containedSaid-refusal, countSaid-refusal, doneSaid-refusal, emptySaid-refusal, enteredSaid-refusal, gotSaid-refusal, heldSaid-refusal, insertedSaid-refusal, removedSaid-refusal, roomSaid-refusal, inSlotSaid-refusal, stepSaid-refusal, swappedSaid-refusal, takenEntrySaid-refusal, takenSaid-refusal}
 use Rattle.answers.specs.declared.Numbers.{Numbers}
-use Rattle.kinds.specs.Owed.{refusing, only, keeping, replacing, standing}
+use Rattle.kinds.specs.Owed.{refusing, only, keeping, replacing, lookingUp}
 use Rattle.kinds.proofs.Owed.{get-owed, remove-owed, entry-owed, held-owed, taken-owed, filled-owed, length-owed, capacity-owed, reserve-owed, copy-owed, union-owed, step-owed, get-counted, remove-counted, entry-counted, zeros, union-known-owed, looked-inserted, looked-removed, paces-once}
 use Rattle.kinds.specs.Columns.{values}
 use Rattle.kinds.specs.Published.{Linked, ZerosElsewhere, PathCounted, asked, given, Right, ToldInStep, unknown, noted, afterCalls, Step, walkOf}
 use Rattle.kinds.specs.Told.{told}
-use Rattle.kinds.proofs.Columns.{values-orderly}
+use Rattle.kinds.proofs.Columns.{values-lawful}
 use Rattle.kinds.proofs.Published.{reported, lowest-told, refused-same, named-only, lent-zeros, inserted-known, removed-known, told-in-step, told-owed, told-rest, walk-told, iterated-told, heard-step}
-use Rattle.kinds.specs.Calls.{makeOf, removeOf, capacityOf, lenOf, isEmptyOf, reserveOf, getOf, containsOf, copyOf, unionOf, setOf, entryOf, orInsertOf, insertEntryOf, heldOf, takenOf, standingOf, slotOf}
+use Rattle.kinds.specs.Calls.{makeOf, removeOf, capacityOf, lenOf, isEmptyOf, reserveOf, getOf, containsOf, copyOf, unionOf, setOf, entryOf, orInsertOf, insertEntryOf, heldOf, takenOf, vacantInsertOf, slotOf}
 use Rattle.kinds.specs.Moved.{movedOn}
 use Rattle.int_slots.specs.Places.{Place, wordIn, places}
-use Rattle.int_slots.proofs.Lawful.{cells-lawful}
-use Rattle.int_slots.proofs.Places.{cells-steady, cells-apart}
+use Rattle.int_slots.proofs.Lawful.{int-lawful}
+use Rattle.int_slots.proofs.Places.{int-steady, int-apart}
 use Rattle.int_slots.specs.Maps.{maps}
 use Rattle.int_map_entry.specs.Calls.{handleOf}
 use Rattle.int_slots.specs.Kinds.{insertOf, removeEntryOf}
@@ -47,11 +47,11 @@ use Rattle.promises.specs.MapAlphabet.{mapMeant}
 
 -- Integer maps are a lawful store.
 pub maps-lawful : Lawful maps
-maps-lawful = cells-lawful values values-orderly
+maps-lawful = int-lawful values values-lawful
 
 -- Each published call tells the refusal of the theory's call.
 number-told : (w : World maps) (x : ℕ) (c : Call) → told-by w x c .numbers .refusal ≡ refusal (answer maps w x (meant w x c))
-unfolding told-by meant mapMeant answer tells left leaves makeOf capacityOf lenOf isEmptyOf reserveOf getOf containsOf insertOf removeOf copyOf unionOf stepOf entryOf setOf removeEntryOf orInsertOf insertEntryOf heldOf takenOf standingOf refusal
+unfolding told-by meant mapMeant answer tells left leaves makeOf capacityOf lenOf isEmptyOf reserveOf getOf containsOf insertOf removeOf copyOf unionOf stepOf entryOf setOf removeEntryOf orInsertOf insertEntryOf heldOf takenOf vacantInsertOf refusal
 number-told w x make = doneSaid-refusal _ ∙ sym (reported (λ n. fine) (λ a. refl) _)
 number-told w x clear = doneSaid-refusal _ ∙ sym (reported (λ n. fine) (λ a. refl) _)
 number-told w x capacity = countSaid-refusal _ ∙ sym (reported number (λ a. refl) _)
@@ -68,15 +68,15 @@ number-told w x (insert k v) = insertedSaid-refusal _ ∙ sym (reported spot (λ
 number-told w x (occupied-get s k) = heldSaid-refusal s _ ∙ sym (reported value (λ a. refl) _)
 number-told w x (occupied-remove s k) = takenSaid-refusal _ ∙ sym (reported value (λ a. refl) _)
 number-told w x (occupied-remove-entry s k) = takenEntrySaid-refusal k _ ∙ sym (reported value (λ a. refl) _)
-number-told w x (step at budget) = stepSaid-refusal pairHanded (λ k v p e. refl) at _ ∙ sym (reported paced (λ a. refl) _)
+number-told w x (step at budget) = stepSaid-refusal pairHanded (λ k v p e. refl) at _ ∙ sym (reported stepped (λ a. refl) _)
 number-told w x (occupied-set s k v) = swappedSaid-refusal s _ ∙ sym (reported value (λ a. refl) _)
-number-told w x (vacant-insert s k v) = standingSaid-refusal s _ ∙ sym (reported value (λ a. refl) _)
-number-told w x (or-insert e k v) = standingSaid-refusal _ _ ∙ sym (reported value (λ a. refl) _)
-number-told w x (insert-entry e k v) = standingSaid-refusal _ _ ∙ sym (reported value (λ a. refl) _)
+number-told w x (vacant-insert s k v) = inSlotSaid-refusal s _ ∙ sym (reported value (λ a. refl) _)
+number-told w x (or-insert e k v) = inSlotSaid-refusal _ _ ∙ sym (reported value (λ a. refl) _)
+number-told w x (insert-entry e k v) = inSlotSaid-refusal _ _ ∙ sym (reported value (λ a. refl) _)
 
 -- And leaves its memory.
 memory-told : (w : World maps) (x : ℕ) (c : Call) → told-by w x c .memory ≡ left maps w x (meant w x c)
-unfolding told-by meant mapMeant answer tells left leaves makeOf capacityOf lenOf isEmptyOf reserveOf getOf containsOf insertOf removeOf copyOf unionOf stepOf entryOf setOf removeEntryOf orInsertOf insertEntryOf heldOf takenOf standingOf
+unfolding told-by meant mapMeant answer tells left leaves makeOf capacityOf lenOf isEmptyOf reserveOf getOf containsOf insertOf removeOf copyOf unionOf stepOf entryOf setOf removeEntryOf orInsertOf insertEntryOf heldOf takenOf vacantInsertOf
 memory-told w x make = refl
 memory-told w x clear = refl
 memory-told w x capacity = refl
@@ -115,7 +115,7 @@ maps-linked = record { number = number-told; memory = memory-told; hears = steps
 
 -- Where the map of a call's table is known, the call tells what it owes.
 owes-told : (s : Book maps) → Right maps published s → (x : ℕ) (c : Call) (f : Finite ℕ ℕ) → s .maps x ≡ some f → Owes s x f c (told-by (s .world) x c .numbers)
-unfolding told-by makeOf capacityOf lenOf isEmptyOf reserveOf getOf containsOf insertOf removeOf copyOf unionOf stepOf entryOf setOf removeEntryOf orInsertOf insertEntryOf heldOf takenOf standingOf Calls.or-insert Calls.insert-entry doneSaid countSaid emptySaid roomSaid gotSaid containedSaid removedSaid enteredSaid insertedSaid heldSaid swappedSaid takenSaid takenEntrySaid standingSaid stepSaid slotOf give keeping replacing
+unfolding told-by makeOf capacityOf lenOf isEmptyOf reserveOf getOf containsOf insertOf removeOf copyOf unionOf stepOf entryOf setOf removeEntryOf orInsertOf insertEntryOf heldOf takenOf vacantInsertOf Calls.or-insert Calls.insert-entry doneSaid countSaid emptySaid roomSaid gotSaid containedSaid removedSaid enteredSaid insertedSaid heldSaid swappedSaid takenSaid takenEntrySaid inSlotSaid stepSaid slotOf give keeping replacing
 owes-told s h x make f e = capacity-owed maps maps-lawful (s .world x) f (h x f e) doneSaid (only 1) refl
 owes-told s h x clear f e = capacity-owed maps maps-lawful (s .world x) f (h x f e) doneSaid (only 1) refl
 owes-told s h x capacity f e = capacity-owed maps maps-lawful (s .world x) f (h x f e) countSaid _ refl
@@ -137,17 +137,17 @@ owes-told s h x (occupied-remove i k) f e = taken-owed maps maps-lawful (s .worl
 owes-told s h x (occupied-remove-entry i k) f e = taken-owed maps maps-lawful (s .world x) f (h x f e) (takenEntrySaid k) _ (λ n. refl) (λ v. refl) i k
 owes-told s h x (step a b) f e = step-owed maps maps-lawful (s .world x) f (h x f e) (stepSaid pairHanded a) a b pairTold (λ n. refl) (λ j k v e q. refl) (λ y e. refl) (λ y. refl)
 owes-told s h x (occupied-set i k v) f e = held-owed maps maps-lawful (s .world x) f (h x f e) (swappedSaid i) _ (λ n. refl) (λ v. refl) i k
-owes-told s h x (vacant-insert i k v) f e = filled-owed maps maps-lawful (s .world x) f (h x f e) (standingSaid i) v _ (λ n. refl) refl i k
+owes-told s h x (vacant-insert i k v) f e = filled-owed maps maps-lawful (s .world x) f (h x f e) (inSlotSaid i) v _ (λ n. refl) refl i k
 owes-told s h x (or-insert a k v) f e = go (handleOf (length (s .world x .marks)) a)
   where
-    go : (o : Handle) → standingSaid (slotOf o) (Calls.or-insert maps (s .world x) o k v) ≡ keeping maps (s .world x) f o k v
-    go (on-occupied i) = held-owed maps maps-lawful (s .world x) f (h x f e) (standingSaid i) _ (λ n. refl) (λ v. refl) i k
-    go (on-vacant i) = filled-owed maps maps-lawful (s .world x) f (h x f e) (standingSaid i) v _ (λ n. refl) refl i k
+    go : (o : Handle) → inSlotSaid (slotOf o) (Calls.or-insert maps (s .world x) o k v) ≡ keeping maps (s .world x) f o k v
+    go (on-occupied i) = held-owed maps maps-lawful (s .world x) f (h x f e) (inSlotSaid i) _ (λ n. refl) (λ v. refl) i k
+    go (on-vacant i) = filled-owed maps maps-lawful (s .world x) f (h x f e) (inSlotSaid i) v _ (λ n. refl) refl i k
 owes-told s h x (insert-entry a k v) f e = go (handleOf (length (s .world x .marks)) a)
   where
-    go : (o : Handle) → standingSaid (slotOf o) (Calls.insert-entry maps (s .world x) o k v) ≡ replacing maps (s .world x) f o k v
-    go (on-occupied i) = held-owed maps maps-lawful (s .world x) f (h x f e) (λ o. standingSaid i (give v o)) _ (λ n. refl) (λ u. refl) i k
-    go (on-vacant i) = filled-owed maps maps-lawful (s .world x) f (h x f e) (standingSaid i) v _ (λ n. refl) refl i k
+    go : (o : Handle) → inSlotSaid (slotOf o) (Calls.insert-entry maps (s .world x) o k v) ≡ replacing maps (s .world x) f o k v
+    go (on-occupied i) = held-owed maps maps-lawful (s .world x) f (h x f e) (λ o. inSlotSaid i (give v o)) _ (λ n. refl) (λ u. refl) i k
+    go (on-vacant i) = filled-owed maps maps-lawful (s .world x) f (h x f e) (inSlotSaid i) v _ (λ n. refl) refl i k
 
 -- At most one answer meets what a call owes.
 pub owes-once : (s : Book maps) (x : ℕ) (f : Finite ℕ ℕ) (c : Call) (n o : Numbers) → Owes s x f c n → Owes s x f c o → n ≡ o
@@ -183,11 +183,11 @@ demand-1-still w x c h = refused-same maps published maps-linked w x c h
 
 -- An accepted call changes no lent place that its rule does not name.
 pub demand-1-named : (w : World maps) (x : ℕ) (c : Call) (p : Place) → names maps (places values) p w x (meant w x c) ≡ false → wordIn values (told-by w x c .memory) p ≡ wordIn values (w x) p
-demand-1-named w x c p e = named-only maps published maps-linked (cells-steady values values-orderly) (places values) (cells-apart values values-orderly) w x c p e
+demand-1-named w x c p e = named-only maps published maps-linked (int-steady values values-lawful) (places values) (int-apart values values-lawful) w x c p e
 
 -- A refused call tells its number, zeros elsewhere, and the walk as it came.
 refused-zeros : (w : World maps) (x : ℕ) (c : Call) → (told-by w x c .numbers .refusal ≡ 0 → ⊥) → told-by w x c .numbers ≡ refusing (told-by w x c .numbers .refusal) (given (meant w x c))
-unfolding told-by meant mapMeant given makeOf capacityOf lenOf isEmptyOf reserveOf getOf containsOf insertOf removeOf copyOf unionOf stepOf entryOf setOf removeEntryOf orInsertOf insertEntryOf heldOf takenOf standingOf doneSaid countSaid emptySaid roomSaid gotSaid containedSaid removedSaid enteredSaid insertedSaid heldSaid swappedSaid takenSaid takenEntrySaid standingSaid stepSaid numberIn
+unfolding told-by meant mapMeant given makeOf capacityOf lenOf isEmptyOf reserveOf getOf containsOf insertOf removeOf copyOf unionOf stepOf entryOf setOf removeEntryOf orInsertOf insertEntryOf heldOf takenOf vacantInsertOf doneSaid countSaid emptySaid roomSaid gotSaid containedSaid removedSaid enteredSaid insertedSaid heldSaid swappedSaid takenSaid takenEntrySaid inSlotSaid stepSaid numberIn
 refused-zeros w x make h = zeros doneSaid 0 (λ n. refl) (λ y. refl) (Calls.capacity maps (w x)) h
 refused-zeros w x clear h = zeros doneSaid 0 (λ n. refl) (λ y. refl) (Calls.capacity maps (w x)) h
 refused-zeros w x capacity h = zeros countSaid 0 (λ n. refl) (λ y. refl) (Calls.capacity maps (w x)) h
@@ -206,9 +206,9 @@ refused-zeros w x (occupied-remove i k) h = zeros takenSaid 0 (λ n. refl) (λ y
 refused-zeros w x (occupied-remove-entry i k) h = zeros (takenEntrySaid k) 0 (λ n. refl) (λ y. refl) (Calls.occupied-remove maps (w x) i k) h
 refused-zeros w x (step a b) h = zeros (stepSaid pairHanded a) a (λ n. refl) (λ y. stepSaid-refusal pairHanded (λ k v p e. refl) a (ok y)) (stepping maps (w x) a b) h
 refused-zeros w x (occupied-set i k v) h = zeros (swappedSaid i) 0 (λ n. refl) (λ y. refl) (Calls.occupied-get maps (w x) i k) h
-refused-zeros w x (vacant-insert i k v) h = zeros (standingSaid i) 0 (λ n. refl) (λ y. refl) (Calls.vacant-insert maps (w x) i k v) h
-refused-zeros w x (or-insert a k v) h = zeros (standingSaid (slotOf (handleOf (length (w x .marks)) a))) 0 (λ n. refl) (λ y. refl) (Calls.or-insert maps (w x) (handleOf (length (w x .marks)) a) k v) h
-refused-zeros w x (insert-entry a k v) h = zeros (standingSaid (slotOf (handleOf (length (w x .marks)) a))) 0 (λ n. refl) (λ y. refl) (Calls.insert-entry maps (w x) (handleOf (length (w x .marks)) a) k v) h
+refused-zeros w x (vacant-insert i k v) h = zeros (inSlotSaid i) 0 (λ n. refl) (λ y. refl) (Calls.vacant-insert maps (w x) i k v) h
+refused-zeros w x (or-insert a k v) h = zeros (inSlotSaid (slotOf (handleOf (length (w x .marks)) a))) 0 (λ n. refl) (λ y. refl) (Calls.or-insert maps (w x) (handleOf (length (w x .marks)) a) k v) h
+refused-zeros w x (insert-entry a k v) h = zeros (inSlotSaid (slotOf (handleOf (length (w x .marks)) a))) 0 (λ n. refl) (λ y. refl) (Calls.insert-entry maps (w x) (handleOf (length (w x .marks)) a) k v) h
 
 -- A refusal tells its number, zeros elsewhere, and the walk as it came, on any memory, lent walks included.
 pub demand-1-zeros : ZerosElsewhere maps published
@@ -266,7 +266,7 @@ told-after-insert s h x f e k v r =
     let g = noted maps published s x (insert k v) in
     let run = told-in-step maps published maps-linked maps-lawful owed owes-told ((x, (insert k v)) ∷ (x, get k) ∷ []) s h in
     let o = told-owed maps published maps-linked owed x (get k) [] g (told-rest maps published maps-linked owed x (insert k v) ((x, get k) ∷ []) s run) _ (inserted-known maps published maps-linked s x (insert k v) k v f refl e r) in
-    let q = o ∙ looked-inserted maps (g .world x) f k (λ v i e. standing 6 v i e) (λ e. standing 8 0 0 e) v refl in
+    let q = o ∙ looked-inserted maps (g .world x) f k (λ v i e. lookingUp 6 v i e) (λ e. lookingUp 8 0 0 e) v refl in
     (ap (λ n. n .case) q, ap (λ n. n .value) q)
 
 pub told-after-remove : (s : Book maps) → Right maps published s → (x : ℕ) (f : Finite ℕ ℕ) → s .maps x ≡ some f → (k : ℕ) → told-by (s .world) x (remove k) .numbers .refusal ≡ 0 → told-by (noted maps published s x (remove k) .world) x (get k) .numbers .case ≡ 8
@@ -275,4 +275,4 @@ told-after-remove s h x f e k r =
     let g = noted maps published s x (remove k) in
     let run = told-in-step maps published maps-linked maps-lawful owed owes-told ((x, remove k) ∷ (x, get k) ∷ []) s h in
     let o = told-owed maps published maps-linked owed x (get k) [] g (told-rest maps published maps-linked owed x (remove k) ((x, get k) ∷ []) s run) _ (removed-known maps published maps-linked s x (remove k) k f refl e r) in
-    ap (λ n. n .case) (o ∙ looked-removed maps (g .world x) f k (λ v i e. standing 6 v i e) (λ e. standing 8 0 0 e) refl)
+    ap (λ n. n .case) (o ∙ looked-removed maps (g .world x) f k (λ v i e. lookingUp 6 v i e) (λ e. lookingUp 8 0 0 e) refl)

@@ -11,7 +11,7 @@ use lib.Dec.{eqb}
 use lib.ListN.{length}
 use Rattle.model.specs.Calls.{ok}
 use Rattle.model.specs.Calls
-use Rattle.model.specs.Machine.{fine, number, truth, seen, spot, paced, tells, leaves, answer, left, stepping, World}
+use Rattle.model.specs.Machine.{fine, number, truth, seen, spot, stepped, tells, leaves, answer, left, stepping, World}
 use Rattle.model.specs.Lawful.{Lawful}
 use Rattle.model.specs.Demand1.{Least, rows, refusal, numberIn}
 use Rattle.model.specs.Demand2.{keyOf, Book}
@@ -26,18 +26,18 @@ use Rattle.model.proofs.Numbered.{step-numbered}
 use Rattle.answers.specs.Said.{doneSaid, countSaid, emptySaid, roomSaid, containedSaid, droppedSaid, memberSaid, addedSaid, stepSaid, keyHanded}
 use Rattle.answers.proofs.Said.{addedSaid-refusal, containedSaid-refusal, countSaid-refusal, doneSaid-refusal, droppedSaid-refusal, emptySaid-refusal, memberSaid-refusal, roomSaid-refusal, stepSaid-refusal}
 use Rattle.answers.specs.declared.Numbers.{Numbers}
-use Rattle.kinds.specs.Owed.{refusing, only, standing}
+use Rattle.kinds.specs.Owed.{refusing, only, lookingUp}
 use Rattle.kinds.proofs.Owed.{get-owed, remove-owed, entry-owed, length-owed, capacity-owed, reserve-owed, copy-owed, step-owed, get-counted, remove-counted, entry-counted, zeros, looked-inserted, looked-removed, paces-once}
 use Rattle.kinds.specs.Columns.{nothing}
 use Rattle.kinds.specs.Published.{Linked, ZerosElsewhere, PathCounted, asked, given, Right, ToldInStep, unknown, noted, afterCalls, Step, walkOf}
 use Rattle.kinds.specs.Told.{told}
-use Rattle.kinds.proofs.Columns.{nothing-orderly}
+use Rattle.kinds.proofs.Columns.{nothing-lawful}
 use Rattle.kinds.proofs.Published.{reported, lowest-told, refused-same, named-only, lent-zeros, inserted-known, removed-known, told-in-step, told-owed, told-rest, walk-told, iterated-told, heard-step}
 use Rattle.kinds.specs.Calls.{makeOf, droppedOf, capacityOf, lenOf, isEmptyOf, reserveOf, containsOf, copyOf}
 use Rattle.kinds.specs.Moved.{movedOn}
 use Rattle.int_slots.specs.Places.{Place, wordIn, places}
-use Rattle.int_slots.proofs.Lawful.{cells-lawful}
-use Rattle.int_slots.proofs.Places.{cells-steady, cells-apart}
+use Rattle.int_slots.proofs.Lawful.{int-lawful}
+use Rattle.int_slots.proofs.Places.{int-steady, int-apart}
 use Rattle.int_slots.specs.Sets.{sets}
 use Rattle.int_slots.specs.Kinds.{setInsertOf, setGetOf}
 use Rattle.int_slots.specs.Steps.{setStepOf}
@@ -46,7 +46,7 @@ use Rattle.promises.specs.SetAlphabet.{setMeant}
 
 -- Integer sets are a lawful store.
 pub sets-lawful : Lawful sets
-sets-lawful = cells-lawful nothing nothing-orderly
+sets-lawful = int-lawful nothing nothing-lawful
 
 -- Each published call tells the refusal of the theory's call.
 number-told : (w : World sets) (x : ℕ) (c : Call) → told-by w x c .numbers .refusal ≡ refusal (answer sets w x (meant w x c))
@@ -62,7 +62,7 @@ number-told w x (contains k) = containedSaid-refusal _ ∙ sym (reported seen (�
 number-told w x (insert k) = addedSaid-refusal _ ∙ sym (reported spot (λ a. refl) _)
 number-told w x (remove k) = droppedSaid-refusal _ ∙ sym (reported seen (λ a. refl) _)
 number-told w x (copy y) = doneSaid-refusal _ ∙ sym (reported (λ u. fine) (λ a. refl) _)
-number-told w x (step at budget) = stepSaid-refusal keyHanded (λ k v p e. refl) at _ ∙ sym (reported paced (λ a. refl) _)
+number-told w x (step at budget) = stepSaid-refusal keyHanded (λ k v p e. refl) at _ ∙ sym (reported stepped (λ a. refl) _)
 
 -- And leaves its memory.
 memory-told : (w : World sets) (x : ℕ) (c : Call) → told-by w x c .memory ≡ left sets w x (meant w x c)
@@ -135,7 +135,7 @@ demand-1-still w x c h = refused-same sets published sets-linked w x c h
 
 -- An accepted call changes no lent place that its rule does not name.
 pub demand-1-named : (w : World sets) (x : ℕ) (c : Call) (p : Place) → names sets (places nothing) p w x (meant w x c) ≡ false → wordIn nothing (told-by w x c .memory) p ≡ wordIn nothing (w x) p
-demand-1-named w x c p e = named-only sets published sets-linked (cells-steady nothing nothing-orderly) (places nothing) (cells-apart nothing nothing-orderly) w x c p e
+demand-1-named w x c p e = named-only sets published sets-linked (int-steady nothing nothing-lawful) (places nothing) (int-apart nothing nothing-lawful) w x c p e
 
 -- A refused call tells its number, zeros elsewhere, and the walk as it came.
 refused-zeros : (w : World sets) (x : ℕ) (c : Call) → (told-by w x c .numbers .refusal ≡ 0 → ⊥) → told-by w x c .numbers ≡ refusing (told-by w x c .numbers .refusal) (given (meant w x c))
@@ -200,7 +200,7 @@ told-after-insert s h x f e k r =
     let g = noted sets published s x (insert k) in
     let run = told-in-step sets published sets-linked sets-lawful owed owes-told ((x, (insert k)) ∷ (x, contains k) ∷ []) s h in
     let o = told-owed sets published sets-linked owed x (contains k) [] g (told-rest sets published sets-linked owed x (insert k) ((x, contains k) ∷ []) s run) _ (inserted-known sets published sets-linked s x (insert k) k tt f refl e r) in
-    let q = o ∙ looked-inserted sets (g .world x) f k (λ v i e. standing 7 0 0 e) (λ e. standing 8 0 0 e) tt refl in
+    let q = o ∙ looked-inserted sets (g .world x) f k (λ v i e. lookingUp 7 0 0 e) (λ e. lookingUp 8 0 0 e) tt refl in
     ap (λ n. n .case) q
 
 pub told-after-remove : (s : Book sets) → Right sets published s → (x : ℕ) (f : Finite ℕ (Unit {0})) → s .maps x ≡ some f → (k : ℕ) → told-by (s .world) x (remove k) .numbers .refusal ≡ 0 → told-by (noted sets published s x (remove k) .world) x (contains k) .numbers .case ≡ 8
@@ -209,4 +209,4 @@ told-after-remove s h x f e k r =
     let g = noted sets published s x (remove k) in
     let run = told-in-step sets published sets-linked sets-lawful owed owes-told ((x, remove k) ∷ (x, contains k) ∷ []) s h in
     let o = told-owed sets published sets-linked owed x (contains k) [] g (told-rest sets published sets-linked owed x (remove k) ((x, contains k) ∷ []) s run) _ (removed-known sets published sets-linked s x (remove k) k f refl e r) in
-    ap (λ n. n .case) (o ∙ looked-removed sets (g .world x) f k (λ v i e. standing 7 0 0 e) (λ e. standing 8 0 0 e) refl)
+    ap (λ n. n .case) (o ∙ looked-removed sets (g .world x) f k (λ v i e. lookingUp 7 0 0 e) (λ e. lookingUp 8 0 0 e) refl)

@@ -11,8 +11,8 @@ use lib.ListN.{length, getD}
 use Rattle.model.proofs.Cases.{by-bool, both}
 use Rattle.kinds.specs.Columns.{Column, values, nothing}
 use Rattle.kinds.specs.Marks.{cell}
-use Rattle.int_slots.specs.Memory.{Cells, cells}
-use Rattle.byte_slots.specs.Memory.{Strings, strings, part, endAt, keyAt, fitting, askedOf, keptOf, offsetAt, lengthAt}
+use Rattle.int_slots.specs.Memory.{IntMemory, intStore}
+use Rattle.byte_slots.specs.Memory.{ByteMemory, byteStore, part, endAt, keyAt, fitting, askedOf, keptOf, offsetAt, lengthAt}
 use Rattle.byte_slots.proofs.Held.{by-slot}
 use Rattle.promises.specs.Marks.{SlotSays, mark-0, mark-1, mark-1-past, mark-2, mark-above}
 
@@ -24,16 +24,16 @@ cell-says (suc (suc zero)) k v = mark-2 refl refl
 cell-says (suc (suc (suc n))) k v = mark-above (omega arith) refl
 
 -- A slot of an integer table.
-pub int-slot-says : {W : Type 0} (C : Column W) (m : Cells C) (i : ℕ) → SlotSays (getD (m .marks) i 0) (Unit {0}) (getD (m .keys) i 0) (C .read (m .words) i) (cells C .slots m i)
+pub int-slot-says : {W : Type 0} (C : Column W) (m : IntMemory C) (i : ℕ) → SlotSays (getD (m .marks) i 0) (Unit {0}) (getD (m .keys) i 0) (C .read (m .words) i) (intStore C .slots m i)
 int-slot-says C m i = cell-says (getD (m .marks) i 0) (getD (m .keys) i 0) (C .read (m .words) i)
 
 -- A slot of a byte table: its key is its part of the arena.
-pub byte-slot-says : {W : Type 0} (C : Column W) (m : Strings C) (i : ℕ) → SlotSays (getD (m .spans .marks) i 0) (offsetAt (m .spans) i + lengthAt (m .spans) i ≤ length (m .spans .arena)) (part (m .spans .arena) (offsetAt (m .spans) i) (lengthAt (m .spans) i)) (C .read (m .words) i) (strings C .slots m i)
+pub byte-slot-says : {W : Type 0} (C : Column W) (m : ByteMemory C) (i : ℕ) → SlotSays (getD (m .spans .marks) i 0) (offsetAt (m .spans) i + lengthAt (m .spans) i ≤ length (m .spans .arena)) (part (m .spans .arena) (offsetAt (m .spans) i) (lengthAt (m .spans) i)) (C .read (m .words) i) (byteStore C .slots m i)
 unfolding endAt keyAt
 byte-slot-says C m i = by-slot (m .spans) (C .read (m .words)) i (λ a q. mark-0 a q) (λ a l q. mark-1 a l q) (λ a l q. mark-1-past a (λ w. omega arith) q) (λ a q. mark-2 a q) (λ a q. mark-above a q)
 
 -- The sizes of integer arrays, with what stands beside the keys.
-int-sized : {W : Type 0} (C : Column W) (m : Cells C) → (cells C .sized m ≡ true) ↔ ((0 < length (m .marks)) × (length (m .marks) ≤ 4096) × (length (m .marks) ≡ length (m .keys)) × (C .long (m .words) (length (m .marks)) ≡ true))
+int-sized : {W : Type 0} (C : Column W) (m : IntMemory C) → (intStore C .sized m ≡ true) ↔ ((0 < length (m .marks)) × (length (m .marks) ≤ 4096) × (length (m .marks) ≡ length (m .keys)) × (C .long (m .words) (length (m .marks)) ≡ true))
 int-sized C m = let S = length (m .marks) in let k = length (m .keys) in (
   (λ e.
       let (a, b) = both (ltb 0 S && leb S 4096) (eqb S k && C .long (m .words) S) e in
@@ -44,20 +44,20 @@ int-sized C m = let S = length (m .marks) in let k = length (m .keys) in (
 )
 
 -- An integer map, an integer set.
-pub int-map-sizes : (m : Cells values) → (cells values .sized m ≡ true) ↔ ((0 < length (m .marks)) × (length (m .marks) ≤ 4096) × (length (m .marks) ≡ length (m .keys)) × (length (m .marks) ≡ length (m .words)))
+pub int-map-sizes : (m : IntMemory values) → (intStore values .sized m ≡ true) ↔ ((0 < length (m .marks)) × (length (m .marks) ≤ 4096) × (length (m .marks) ≡ length (m .keys)) × (length (m .marks) ≡ length (m .words)))
 int-map-sizes m = let S = length (m .marks) in (
   (λ e. let (f, g, c, d) = int-sized values m .0 e in (f, g, c, eqb-true S (length (m .words)) d)),
   (λ (f, g, c, d). int-sized values m .1 (f, g, c, eq-eqb S (length (m .words)) d)),
 )
 
-pub int-set-sizes : (m : Cells nothing) → (cells nothing .sized m ≡ true) ↔ ((0 < length (m .marks)) × (length (m .marks) ≤ 4096) × (length (m .marks) ≡ length (m .keys)))
+pub int-set-sizes : (m : IntMemory nothing) → (intStore nothing .sized m ≡ true) ↔ ((0 < length (m .marks)) × (length (m .marks) ≤ 4096) × (length (m .marks) ≡ length (m .keys)))
 int-set-sizes m = (
   (λ e. let (f, g, c, d) = int-sized nothing m .0 e in (f, g, c)),
   (λ (f, g, c). int-sized nothing m .1 (f, g, c, refl)),
 )
 
 -- The sizes of byte arrays, with what stands beside the keys.
-byte-sized : {W : Type 0} (C : Column W) (m : Strings C) → (strings C .sized m ≡ true) ↔ ((0 < length (m .spans .marks)) × (length (m .spans .marks) ≤ 4096) × (length (m .spans .marks) ≡ length (m .spans .offsets)) × (length (m .spans .marks) ≡ length (m .spans .lengths)) × (length (m .spans .arena) ≤ 32768) × (C .long (m .words) (length (m .spans .marks)) ≡ true))
+byte-sized : {W : Type 0} (C : Column W) (m : ByteMemory C) → (byteStore C .sized m ≡ true) ↔ ((0 < length (m .spans .marks)) × (length (m .spans .marks) ≤ 4096) × (length (m .spans .marks) ≡ length (m .spans .offsets)) × (length (m .spans .marks) ≡ length (m .spans .lengths)) × (length (m .spans .arena) ≤ 32768) × (C .long (m .words) (length (m .spans .marks)) ≡ true))
 unfolding fitting
 byte-sized C m = let S = length (m .spans .marks) in let o = length (m .spans .offsets) in let l = length (m .spans .lengths) in let a = length (m .spans .arena) in (
   (λ e.
@@ -71,13 +71,13 @@ byte-sized C m = let S = length (m .spans .marks) in let o = length (m .spans .o
 )
 
 -- A byte map, a byte set.
-pub byte-map-sizes : (m : Strings values) → (strings values .sized m ≡ true) ↔ ((0 < length (m .spans .marks)) × (length (m .spans .marks) ≤ 4096) × (length (m .spans .marks) ≡ length (m .spans .offsets)) × (length (m .spans .marks) ≡ length (m .spans .lengths)) × (length (m .spans .arena) ≤ 32768) × (length (m .spans .marks) ≡ length (m .words)))
+pub byte-map-sizes : (m : ByteMemory values) → (byteStore values .sized m ≡ true) ↔ ((0 < length (m .spans .marks)) × (length (m .spans .marks) ≤ 4096) × (length (m .spans .marks) ≡ length (m .spans .offsets)) × (length (m .spans .marks) ≡ length (m .spans .lengths)) × (length (m .spans .arena) ≤ 32768) × (length (m .spans .marks) ≡ length (m .words)))
 byte-map-sizes m = let S = length (m .spans .marks) in (
   (λ e. let (f, g, x, u, v, d) = byte-sized values m .0 e in (f, g, x, u, v, eqb-true S (length (m .words)) d)),
   (λ (f, g, x, u, v, d). byte-sized values m .1 (f, g, x, u, v, eq-eqb S (length (m .words)) d)),
 )
 
-pub byte-set-sizes : (m : Strings nothing) → (strings nothing .sized m ≡ true) ↔ ((0 < length (m .spans .marks)) × (length (m .spans .marks) ≤ 4096) × (length (m .spans .marks) ≡ length (m .spans .offsets)) × (length (m .spans .marks) ≡ length (m .spans .lengths)) × (length (m .spans .arena) ≤ 32768))
+pub byte-set-sizes : (m : ByteMemory nothing) → (byteStore nothing .sized m ≡ true) ↔ ((0 < length (m .spans .marks)) × (length (m .spans .marks) ≤ 4096) × (length (m .spans .marks) ≡ length (m .spans .offsets)) × (length (m .spans .marks) ≡ length (m .spans .lengths)) × (length (m .spans .arena) ≤ 32768))
 byte-set-sizes m = (
   (λ e. let (f, g, x, u, v, d) = byte-sized nothing m .0 e in (f, g, x, u, v)),
   (λ (f, g, x, u, v). byte-sized nothing m .1 (f, g, x, u, v, refl)),

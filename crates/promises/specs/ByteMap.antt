@@ -10,19 +10,19 @@ use Rattle.model.specs.Slots.{live}
 use Rattle.model.specs.Machine as model
 use Rattle.model.specs.Machine.{World}
 use Rattle.kinds.specs.Columns.{values}
-use Rattle.kinds.specs.Told.{Told, told}
-use Rattle.kinds.specs.Calls.{makeOf, capacityOf, lenOf, isEmptyOf, reserveOf, containsOf, copyOf, getOf, removeOf, unionOf, entryOf, heldOf, setOf, takenOf, standingOf, orInsertOf, insertEntryOf}
+use Rattle.kinds.specs.Told.{ToldAndLeft, told}
+use Rattle.kinds.specs.Calls.{makeOf, capacityOf, lenOf, isEmptyOf, reserveOf, containsOf, copyOf, getOf, removeOf, unionOf, entryOf, heldOf, setOf, takenOf, vacantInsertOf, orInsertOf, insertEntryOf}
 use Rattle.kinds.specs.Published.{Published, Duty, heardAs}
-use Rattle.kinds.specs.Owed.{refusing, only, counting, standing, copying, handling, admitting, looking, placing, gripping, opening, Paces, spanning, handing, joining, keeping, replacing}
+use Rattle.kinds.specs.Owed.{refusing, only, counting, lookingUp, copying, handling, admitting, looking, placing, holding, opening, OwesStep, spanning, handing, joining, keeping, replacing}
 use Rattle.model.specs.Finite.{Finite, mass}
 use Rattle.model.specs.Finite
 use Rattle.model.specs.Calls.{Or}
-use Rattle.model.specs.Walk.{Paced}
+use Rattle.model.specs.Walk.{StepAnswer}
 use Rattle.model.specs.Demand2.{Book}
 use Rattle.answers.specs.Cases.{DONE, COUNT, EMPTY, HOLDS, ROOM, FOUND, PRESENT, ABSENT, FRESH, REPLACED, REMOVED, OCCUPIED, VACANT, PAIR, VALUE, WAS, NOW}
 use Rattle.answers.specs.declared.Numbers.{Numbers}
 use Rattle.kinds.specs.Moved.{movedOn}
-use Rattle.byte_slots.specs.Memory.{Strings, part, offsetAt, lengthAt}
+use Rattle.byte_slots.specs.Memory.{ByteMemory, part, offsetAt, lengthAt}
 use Rattle.byte_slots.specs.Kinds.{maps, insertOf, stepOf}
 use Rattle.byte_map_entry.specs.declared.Entered.{Entered}
 use Rattle.byte_map_entry.specs.Calls.{handleOf}
@@ -34,7 +34,7 @@ abbrev pub Call : Type 0
 Call = MapCall (List ℕ) Entered
 
 -- What a call on the table x tells and leaves: the definition that its contract cites.
-unfoldable pub told-by : World maps → ℕ → Call → Told (Strings values)
+unfoldable pub told-by : World maps → ℕ → Call → ToldAndLeft (ByteMemory values)
 told-by w x make = makeOf maps (w x)
 told-by w x clear = makeOf maps (w x)
 told-by w x capacity = told (capacityOf maps (w x)) (w x)
@@ -53,7 +53,7 @@ told-by w x (occupied-remove s k) = takenOf maps (w x) s k
 told-by w x (occupied-remove-entry s k) = takenOf maps (w x) s k
 told-by w x (step at budget) = told (stepOf (w x) at budget) (w x)
 told-by w x (occupied-set s k v) = setOf maps (w x) s k v
-told-by w x (vacant-insert s k v) = standingOf maps (w x) s k v
+told-by w x (vacant-insert s k v) = vacantInsertOf maps (w x) s k v
 told-by w x (or-insert e k v) = orInsertOf maps (w x) (handleOf (length (w x .spans .marks)) e) k v
 told-by w x (insert-entry e k v) = insertEntryOf maps (w x) (handleOf (length (w x .spans .marks)) e) k v
 
@@ -62,11 +62,11 @@ unfoldable pub meant : World maps → ℕ → Call → model.Call (List ℕ) ℕ
 meant w x c = mapMeant (handleOf (length (w x .spans .marks))) c
 
 -- The step of a lent walk: what it tells, and the walk that it leaves in its place.
-unfoldable pub lent-by : World maps → ℕ → ℕ → ℕ → Told ℕ
+unfoldable pub lent-by : World maps → ℕ → ℕ → ℕ → ToldAndLeft ℕ
 lent-by w x at budget = movedOn (stepOf (w x) at budget)
 
 -- What a step's numbers say: the pair's key is the told part of the arena, its value is told.
-abbrev pub heard : Strings values → Numbers → Or (Paced (List ℕ) ℕ)
+abbrev pub heard : ByteMemory values → Numbers → Or (StepAnswer (List ℕ) ℕ)
 heard m n = heardAs (λ n. part (m .spans .arena) (n .offset) (n .length)) (λ n. n .value) n
 
 -- The byte map's published calls.
@@ -74,7 +74,7 @@ abbrev pub published : Published maps
 published = record { Call = Call; told-by = told-by; meant = meant; step = step; lent-by = lent-by; heard = heard }
 
 -- A pair that a step hands out, by its slot's part of the arena, and its value.
-abbrev pub pairTold : Strings values → List ℕ → ℕ → ℕ → ℕ → ℕ → Numbers
+abbrev pub pairTold : ByteMemory values → List ℕ → ℕ → ℕ → ℕ → ℕ → Numbers
 pairTold m k v slot walk e = handing 0 v (offsetAt (m .spans) slot) (lengthAt (m .spans) slot) walk e
 
 -- The numbers n that a call on the table x tells, where its map is f.
@@ -85,24 +85,24 @@ Owes s x f capacity n = n ≡ counting COUNT (maps .size (s .world x))
 Owes s x f len n = n ≡ counting COUNT (Finite.len f)
 Owes s x f is-empty n = n ≡ cond (eqb (Finite.len f) 0) (only EMPTY) (only HOLDS)
 Owes s x f (reserve a) n = n ≡ cond (leb a (maps .size (s .world x) - Finite.len f)) (only ROOM) (refusing 7 0)
-Owes s x f (get k) n = n ≡ looking maps (s .world x) f k (λ v i e. standing FOUND v i e) (λ e. standing ABSENT 0 0 e)
-Owes s x f (contains-key k) n = n ≡ looking maps (s .world x) f k (λ v i e. standing PRESENT 0 0 e) (λ e. standing ABSENT 0 0 e)
-Owes s x f (remove k) n = n ≡ looking maps (s .world x) f k (λ v i e. standing REMOVED v i e) (λ e. standing ABSENT 0 0 e)
-Owes s x f (entry k) n = n ≡ placing maps (s .world x) f k (λ v i e. standing OCCUPIED v i e) (λ i e. standing VACANT 0 i e)
+Owes s x f (get k) n = n ≡ looking maps (s .world x) f k (λ v i e. lookingUp FOUND v i e) (λ e. lookingUp ABSENT 0 0 e)
+Owes s x f (contains-key k) n = n ≡ looking maps (s .world x) f k (λ v i e. lookingUp PRESENT 0 0 e) (λ e. lookingUp ABSENT 0 0 e)
+Owes s x f (remove k) n = n ≡ looking maps (s .world x) f k (λ v i e. lookingUp REMOVED v i e) (λ e. lookingUp ABSENT 0 0 e)
+Owes s x f (entry k) n = n ≡ placing maps (s .world x) f k (λ v i e. lookingUp OCCUPIED v i e) (λ i e. lookingUp VACANT 0 i e)
 Owes s x f (copy y) n = n ≡ copying maps (s .world x) (s .world y) (only DONE)
 Owes s x f (union-prefer-right y) n = (n ≡ joining maps (s .world x) f (s .world y) (only DONE)) × ((g : Finite (List ℕ) ℕ) → s .maps y ≡ some g → n ≡ admitting maps (s .world x) (Finite.union-prefer-right f g .dom) (only DONE))
-Owes s x f (insert k v) n = n ≡ placing maps (s .world x) f k (λ u i e. standing REPLACED u i e) (λ i e. spanning FRESH i e (mass length (f .dom)) 0)
-Owes s x f (occupied-get i k) n = n ≡ gripping maps (s .world x) f i k (λ v. handling VALUE 0 v i)
-Owes s x f (occupied-remove i k) n = n ≡ gripping maps (s .world x) f i k (λ v. handling REMOVED 0 v 0)
-Owes s x f (occupied-remove-entry i k) n = n ≡ gripping maps (s .world x) f i k (λ v. handling REMOVED 0 v 0)
-Owes s x f (step a b) n = Paces maps (s .world x) f (pairTold (s .world x)) a b n
-Owes s x f (occupied-set i k v) n = n ≡ gripping maps (s .world x) f i k (λ u. handling WAS 0 u i)
+Owes s x f (insert k v) n = n ≡ placing maps (s .world x) f k (λ u i e. lookingUp REPLACED u i e) (λ i e. spanning FRESH i e (mass length (f .dom)) 0)
+Owes s x f (occupied-get i k) n = n ≡ holding maps (s .world x) f i k (λ v. handling VALUE 0 v i)
+Owes s x f (occupied-remove i k) n = n ≡ holding maps (s .world x) f i k (λ v. handling REMOVED 0 v 0)
+Owes s x f (occupied-remove-entry i k) n = n ≡ holding maps (s .world x) f i k (λ v. handling REMOVED 0 v 0)
+Owes s x f (step a b) n = OwesStep maps (s .world x) f (pairTold (s .world x)) a b n
+Owes s x f (occupied-set i k v) n = n ≡ holding maps (s .world x) f i k (λ u. handling WAS 0 u i)
 Owes s x f (vacant-insert i k v) n = n ≡ opening maps (s .world x) f i k (handling NOW 0 v i)
 Owes s x f (or-insert h k v) n = n ≡ keeping maps (s .world x) f (handleOf (length (s .world x .spans .marks)) h) k v
 Owes s x f (insert-entry h k v) n = n ≡ replacing maps (s .world x) f (handleOf (length (s .world x .spans .marks)) h) k v
 
 -- Where a call tells where a key stands, that part of the arena after the call is the key: of a step, the key of the slot behind the walk. A fresh key has the length that the caller gave.
-abbrev pub Stands : World maps → ℕ → Call → Told (Strings values) → Type 0
+abbrev pub Stands : World maps → ℕ → Call → ToldAndLeft (ByteMemory values) → Type 0
 Stands w x c t =
     ((k : List ℕ) (v : ℕ) → c ≡ insert k v → t .numbers .case ≡ FRESH → part (t .memory .spans .arena) (t .numbers .offset) (length k) ≡ k)
     × ((a b : ℕ) → c ≡ step a b → t .numbers .case ≡ PAIR → maps .slots (w x) (t .numbers .walk - 1) ≡ live (part (t .memory .spans .arena) (t .numbers .offset) (t .numbers .length)) (t .numbers .value))

@@ -11,17 +11,17 @@ use Rattle.model.specs.Machine.{World}
 use Rattle.model.specs.Finite.{Finite, mass}
 use Rattle.model.specs.Finite
 use Rattle.model.specs.Calls.{Or}
-use Rattle.model.specs.Walk.{Paced}
+use Rattle.model.specs.Walk.{StepAnswer}
 use Rattle.model.specs.Demand2.{Book}
 use Rattle.answers.specs.Cases.{DONE, COUNT, EMPTY, HOLDS, ROOM, FOUND, PRESENT, ABSENT, FRESH, REPLACED, REMOVED, PAIR}
 use Rattle.answers.specs.declared.Numbers.{Numbers}
 use Rattle.kinds.specs.Columns.{nothing}
-use Rattle.kinds.specs.Told.{Told, told}
+use Rattle.kinds.specs.Told.{ToldAndLeft, told}
 use Rattle.kinds.specs.Calls.{makeOf, capacityOf, lenOf, isEmptyOf, reserveOf, containsOf, copyOf, droppedOf}
 use Rattle.kinds.specs.Published.{Published, Duty, heardAs}
-use Rattle.kinds.specs.Owed.{refusing, only, counting, standing, copying, looking, placing, Paces, spanning, handing}
+use Rattle.kinds.specs.Owed.{refusing, only, counting, lookingUp, copying, looking, placing, OwesStep, spanning, handing}
 use Rattle.kinds.specs.Moved.{movedOn}
-use Rattle.byte_slots.specs.Memory.{Strings, part, offsetAt, lengthAt}
+use Rattle.byte_slots.specs.Memory.{ByteMemory, part, offsetAt, lengthAt}
 use Rattle.byte_slots.specs.Kinds.{sets, setInsertOf, setGetOf, setStepOf}
 pub use Rattle.promises.specs.SetAlphabet.{make, clear, capacity, len, is-empty, reserve, copy, get, contains, insert, remove, step}
 use Rattle.promises.specs.SetAlphabet.{SetCall, setMeant}
@@ -31,7 +31,7 @@ abbrev pub Call : Type 0
 Call = SetCall (List ℕ)
 
 -- What a call on the table x tells and leaves: the definition that its contract cites.
-unfoldable pub told-by : World sets → ℕ → Call → Told (Strings nothing)
+unfoldable pub told-by : World sets → ℕ → Call → ToldAndLeft (ByteMemory nothing)
 told-by w x make = makeOf sets (w x)
 told-by w x clear = makeOf sets (w x)
 told-by w x capacity = told (capacityOf sets (w x)) (w x)
@@ -50,11 +50,11 @@ unfoldable pub meant : World sets → ℕ → Call → model.Call (List ℕ) (Un
 meant w x c = setMeant c
 
 -- The step of a lent walk: what it tells, and the walk that it leaves in its place.
-unfoldable pub lent-by : World sets → ℕ → ℕ → ℕ → Told ℕ
+unfoldable pub lent-by : World sets → ℕ → ℕ → ℕ → ToldAndLeft ℕ
 lent-by w x at budget = movedOn (setStepOf (w x) at budget)
 
 -- What a step's numbers say: the pair's key is the told part of the arena.
-abbrev pub heard : Strings nothing → Numbers → Or (Paced (List ℕ) (Unit {0}))
+abbrev pub heard : ByteMemory nothing → Numbers → Or (StepAnswer (List ℕ) (Unit {0}))
 heard m n = heardAs (λ n. part (m .spans .arena) (n .offset) (n .length)) (λ n. tt) n
 
 -- The byte set's published calls.
@@ -62,7 +62,7 @@ abbrev pub published : Published sets
 published = record { Call = Call; told-by = told-by; meant = meant; step = step; lent-by = lent-by; heard = heard }
 
 -- A key that a step hands out, by its slot's part of the arena.
-abbrev pub keyTold : Strings nothing → List ℕ → Unit {0} → ℕ → ℕ → ℕ → Numbers
+abbrev pub keyTold : ByteMemory nothing → List ℕ → Unit {0} → ℕ → ℕ → ℕ → Numbers
 keyTold m k v slot walk e = handing 0 0 (offsetAt (m .spans) slot) (lengthAt (m .spans) slot) walk e
 
 -- The numbers n that a call on the table x tells, where its set is f.
@@ -74,14 +74,14 @@ Owes s x f len n = n ≡ counting COUNT (Finite.len f)
 Owes s x f is-empty n = n ≡ cond (eqb (Finite.len f) 0) (only EMPTY) (only HOLDS)
 Owes s x f (reserve a) n = n ≡ cond (leb a (sets .size (s .world x) - Finite.len f)) (only ROOM) (refusing 7 0)
 Owes s x f (copy y) n = n ≡ copying sets (s .world x) (s .world y) (only DONE)
-Owes s x f (get k) n = n ≡ looking sets (s .world x) f k (λ v i e. spanning FOUND i e (offsetAt (s .world x .spans) i) (lengthAt (s .world x .spans) i)) (λ e. standing ABSENT 0 0 e)
-Owes s x f (contains k) n = n ≡ looking sets (s .world x) f k (λ v i e. standing PRESENT 0 0 e) (λ e. standing ABSENT 0 0 e)
-Owes s x f (insert k) n = n ≡ placing sets (s .world x) f k (λ u i e. standing REPLACED 0 i e) (λ i e. spanning FRESH i e (mass length (f .dom)) 0)
-Owes s x f (remove k) n = n ≡ looking sets (s .world x) f k (λ v i e. standing REMOVED 0 i e) (λ e. standing ABSENT 0 0 e)
-Owes s x f (step a b) n = Paces sets (s .world x) f (keyTold (s .world x)) a b n
+Owes s x f (get k) n = n ≡ looking sets (s .world x) f k (λ v i e. spanning FOUND i e (offsetAt (s .world x .spans) i) (lengthAt (s .world x .spans) i)) (λ e. lookingUp ABSENT 0 0 e)
+Owes s x f (contains k) n = n ≡ looking sets (s .world x) f k (λ v i e. lookingUp PRESENT 0 0 e) (λ e. lookingUp ABSENT 0 0 e)
+Owes s x f (insert k) n = n ≡ placing sets (s .world x) f k (λ u i e. lookingUp REPLACED 0 i e) (λ i e. spanning FRESH i e (mass length (f .dom)) 0)
+Owes s x f (remove k) n = n ≡ looking sets (s .world x) f k (λ v i e. lookingUp REMOVED 0 i e) (λ e. lookingUp ABSENT 0 0 e)
+Owes s x f (step a b) n = OwesStep sets (s .world x) f (keyTold (s .world x)) a b n
 
 -- Where a call tells where a key stands, that part of the arena after the call is the key: of a step, the key of the slot behind the walk. A fresh key has the length that the caller gave.
-abbrev pub Stands : World sets → ℕ → Call → Told (Strings nothing) → Type 0
+abbrev pub Stands : World sets → ℕ → Call → ToldAndLeft (ByteMemory nothing) → Type 0
 Stands w x c t =
     ((k : List ℕ) → c ≡ get k → t .numbers .case ≡ FOUND → part (t .memory .spans .arena) (t .numbers .offset) (t .numbers .length) ≡ k)
     × ((k : List ℕ) → c ≡ insert k → t .numbers .case ≡ FRESH → part (t .memory .spans .arena) (t .numbers .offset) (length k) ≡ k)

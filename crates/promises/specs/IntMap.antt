@@ -8,21 +8,21 @@ use lib.ListN.{length}
 use Rattle.model.specs.Machine as model
 use Rattle.model.specs.Machine.{World}
 use Rattle.kinds.specs.Columns.{values}
-use Rattle.kinds.specs.Told.{Told, told}
+use Rattle.kinds.specs.Told.{ToldAndLeft, told}
 use Rattle.kinds.specs.Published.{Published, Duty, heardAs}
-use Rattle.kinds.specs.Owed.{refusing, only, counting, standing, copying, handling, admitting, looking, placing, gripping, opening, Paces, handing, joining, keeping, replacing}
+use Rattle.kinds.specs.Owed.{refusing, only, counting, lookingUp, copying, handling, admitting, looking, placing, holding, opening, OwesStep, handing, joining, keeping, replacing}
 use Rattle.model.specs.Finite.{Finite}
 use Rattle.model.specs.Finite
 use Rattle.model.specs.Calls.{Or}
-use Rattle.model.specs.Walk.{Paced}
+use Rattle.model.specs.Walk.{StepAnswer}
 use Rattle.model.specs.Demand2.{Book}
 use Rattle.answers.specs.Cases.{DONE, COUNT, EMPTY, HOLDS, ROOM, FOUND, PRESENT, ABSENT, FRESH, REPLACED, REMOVED, OCCUPIED, VACANT, VALUE, WAS, NOW}
 use Rattle.answers.specs.declared.Numbers.{Numbers}
 use Rattle.kinds.specs.Moved.{movedOn}
-use Rattle.int_slots.specs.Memory.{Cells}
+use Rattle.int_slots.specs.Memory.{IntMemory}
 use Rattle.int_slots.specs.Maps.{maps}
 use Rattle.int_slots.specs.Kinds.{insertOf, removeEntryOf}
-use Rattle.kinds.specs.Calls.{makeOf, removeOf, capacityOf, lenOf, isEmptyOf, reserveOf, getOf, containsOf, copyOf, unionOf, setOf, entryOf, orInsertOf, insertEntryOf, heldOf, takenOf, standingOf}
+use Rattle.kinds.specs.Calls.{makeOf, removeOf, capacityOf, lenOf, isEmptyOf, reserveOf, getOf, containsOf, copyOf, unionOf, setOf, entryOf, orInsertOf, insertEntryOf, heldOf, takenOf, vacantInsertOf}
 use Rattle.int_slots.specs.Steps.{stepOf}
 use Rattle.int_map_entry.specs.declared.Entered.{Entered}
 use Rattle.int_map_entry.specs.Calls.{handleOf}
@@ -34,7 +34,7 @@ abbrev pub Call : Type 0
 Call = MapCall ℕ Entered
 
 -- What a call on the table x tells and leaves: the definition that its contract cites.
-unfoldable pub told-by : World maps → ℕ → Call → Told (Cells values)
+unfoldable pub told-by : World maps → ℕ → Call → ToldAndLeft (IntMemory values)
 told-by w x make = makeOf maps (w x)
 told-by w x clear = makeOf maps (w x)
 told-by w x capacity = told (capacityOf maps (w x)) (w x)
@@ -53,7 +53,7 @@ told-by w x (occupied-remove s k) = takenOf maps (w x) s k
 told-by w x (occupied-remove-entry s k) = removeEntryOf (w x) s k
 told-by w x (step at budget) = told (stepOf (w x) at budget) (w x)
 told-by w x (occupied-set s k v) = setOf maps (w x) s k v
-told-by w x (vacant-insert s k v) = standingOf maps (w x) s k v
+told-by w x (vacant-insert s k v) = vacantInsertOf maps (w x) s k v
 told-by w x (or-insert e k v) = orInsertOf maps (w x) (handleOf (length (w x .marks)) e) k v
 told-by w x (insert-entry e k v) = insertEntryOf maps (w x) (handleOf (length (w x .marks)) e) k v
 
@@ -62,11 +62,11 @@ unfoldable pub meant : World maps → ℕ → Call → model.Call ℕ ℕ
 meant w x c = mapMeant (handleOf (length (w x .marks))) c
 
 -- The step of a lent walk: what it tells, and the walk that it leaves in its place.
-unfoldable pub lent-by : World maps → ℕ → ℕ → ℕ → Told ℕ
+unfoldable pub lent-by : World maps → ℕ → ℕ → ℕ → ToldAndLeft ℕ
 lent-by w x at budget = movedOn (stepOf (w x) at budget)
 
 -- What a step's numbers say: the pair's key and value are told.
-abbrev pub heard : Cells values → Numbers → Or (Paced ℕ ℕ)
+abbrev pub heard : IntMemory values → Numbers → Or (StepAnswer ℕ ℕ)
 heard m n = heardAs (λ n. n .key) (λ n. n .value) n
 
 -- The integer map's published calls.
@@ -85,18 +85,18 @@ Owes s x f capacity n = n ≡ counting COUNT (maps .size (s .world x))
 Owes s x f len n = n ≡ counting COUNT (Finite.len f)
 Owes s x f is-empty n = n ≡ cond (eqb (Finite.len f) 0) (only EMPTY) (only HOLDS)
 Owes s x f (reserve a) n = n ≡ cond (leb a (maps .size (s .world x) - Finite.len f)) (only ROOM) (refusing 7 0)
-Owes s x f (get k) n = n ≡ looking maps (s .world x) f k (λ v i e. standing FOUND v i e) (λ e. standing ABSENT 0 0 e)
-Owes s x f (contains-key k) n = n ≡ looking maps (s .world x) f k (λ v i e. standing PRESENT 0 0 e) (λ e. standing ABSENT 0 0 e)
-Owes s x f (remove k) n = n ≡ looking maps (s .world x) f k (λ v i e. standing REMOVED v i e) (λ e. standing ABSENT 0 0 e)
-Owes s x f (entry k) n = n ≡ placing maps (s .world x) f k (λ v i e. standing OCCUPIED v i e) (λ i e. standing VACANT 0 i e)
+Owes s x f (get k) n = n ≡ looking maps (s .world x) f k (λ v i e. lookingUp FOUND v i e) (λ e. lookingUp ABSENT 0 0 e)
+Owes s x f (contains-key k) n = n ≡ looking maps (s .world x) f k (λ v i e. lookingUp PRESENT 0 0 e) (λ e. lookingUp ABSENT 0 0 e)
+Owes s x f (remove k) n = n ≡ looking maps (s .world x) f k (λ v i e. lookingUp REMOVED v i e) (λ e. lookingUp ABSENT 0 0 e)
+Owes s x f (entry k) n = n ≡ placing maps (s .world x) f k (λ v i e. lookingUp OCCUPIED v i e) (λ i e. lookingUp VACANT 0 i e)
 Owes s x f (copy y) n = n ≡ copying maps (s .world x) (s .world y) (only DONE)
 Owes s x f (union-prefer-right y) n = (n ≡ joining maps (s .world x) f (s .world y) (only DONE)) × ((g : Finite ℕ ℕ) → s .maps y ≡ some g → n ≡ admitting maps (s .world x) (Finite.union-prefer-right f g .dom) (only DONE))
-Owes s x f (insert k v) n = n ≡ placing maps (s .world x) f k (λ u i e. standing REPLACED u i e) (λ i e. standing FRESH 0 i e)
-Owes s x f (occupied-get i k) n = n ≡ gripping maps (s .world x) f i k (λ v. handling VALUE 0 v i)
-Owes s x f (occupied-remove i k) n = n ≡ gripping maps (s .world x) f i k (λ v. handling REMOVED 0 v 0)
-Owes s x f (occupied-remove-entry i k) n = n ≡ gripping maps (s .world x) f i k (λ v. handling REMOVED k v 0)
-Owes s x f (step a b) n = Paces maps (s .world x) f pairTold a b n
-Owes s x f (occupied-set i k v) n = n ≡ gripping maps (s .world x) f i k (λ u. handling WAS 0 u i)
+Owes s x f (insert k v) n = n ≡ placing maps (s .world x) f k (λ u i e. lookingUp REPLACED u i e) (λ i e. lookingUp FRESH 0 i e)
+Owes s x f (occupied-get i k) n = n ≡ holding maps (s .world x) f i k (λ v. handling VALUE 0 v i)
+Owes s x f (occupied-remove i k) n = n ≡ holding maps (s .world x) f i k (λ v. handling REMOVED 0 v 0)
+Owes s x f (occupied-remove-entry i k) n = n ≡ holding maps (s .world x) f i k (λ v. handling REMOVED k v 0)
+Owes s x f (step a b) n = OwesStep maps (s .world x) f pairTold a b n
+Owes s x f (occupied-set i k v) n = n ≡ holding maps (s .world x) f i k (λ u. handling WAS 0 u i)
 Owes s x f (vacant-insert i k v) n = n ≡ opening maps (s .world x) f i k (handling NOW 0 v i)
 Owes s x f (or-insert h k v) n = n ≡ keeping maps (s .world x) f (handleOf (length (s .world x .marks)) h) k v
 Owes s x f (insert-entry h k v) n = n ≡ replacing maps (s .world x) f (handleOf (length (s .world x .marks)) h) k v

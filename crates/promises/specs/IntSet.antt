@@ -8,17 +8,17 @@ use Rattle.model.specs.Machine.{World}
 use Rattle.model.specs.Finite.{Finite}
 use Rattle.model.specs.Finite
 use Rattle.model.specs.Calls.{Or}
-use Rattle.model.specs.Walk.{Paced}
+use Rattle.model.specs.Walk.{StepAnswer}
 use Rattle.model.specs.Demand2.{Book}
 use Rattle.answers.specs.Cases.{DONE, COUNT, EMPTY, HOLDS, ROOM, FOUND, PRESENT, ABSENT, FRESH, REPLACED, REMOVED}
 use Rattle.answers.specs.declared.Numbers.{Numbers}
 use Rattle.kinds.specs.Columns.{nothing}
-use Rattle.kinds.specs.Told.{Told, told}
+use Rattle.kinds.specs.Told.{ToldAndLeft, told}
 use Rattle.kinds.specs.Published.{Published, Duty, heardAs}
-use Rattle.kinds.specs.Owed.{refusing, only, counting, standing, copying, looking, placing, Paces, handing}
+use Rattle.kinds.specs.Owed.{refusing, only, counting, lookingUp, copying, looking, placing, OwesStep, handing}
 use Rattle.kinds.specs.Calls.{makeOf, droppedOf, capacityOf, lenOf, isEmptyOf, reserveOf, containsOf, copyOf}
 use Rattle.kinds.specs.Moved.{movedOn}
-use Rattle.int_slots.specs.Memory.{Cells}
+use Rattle.int_slots.specs.Memory.{IntMemory}
 use Rattle.int_slots.specs.Sets.{sets}
 use Rattle.int_slots.specs.Kinds.{setInsertOf, setGetOf}
 use Rattle.int_slots.specs.Steps.{setStepOf}
@@ -30,7 +30,7 @@ abbrev pub Call : Type 0
 Call = SetCall ℕ
 
 -- What a call on the table x tells and leaves: the definition that its contract cites.
-unfoldable pub told-by : World sets → ℕ → Call → Told (Cells nothing)
+unfoldable pub told-by : World sets → ℕ → Call → ToldAndLeft (IntMemory nothing)
 told-by w x make = makeOf sets (w x)
 told-by w x clear = makeOf sets (w x)
 told-by w x capacity = told (capacityOf sets (w x)) (w x)
@@ -49,11 +49,11 @@ unfoldable pub meant : World sets → ℕ → Call → model.Call ℕ (Unit {0})
 meant w x c = setMeant c
 
 -- The step of a lent walk: what it tells, and the walk that it leaves in its place.
-unfoldable pub lent-by : World sets → ℕ → ℕ → ℕ → Told ℕ
+unfoldable pub lent-by : World sets → ℕ → ℕ → ℕ → ToldAndLeft ℕ
 lent-by w x at budget = movedOn (setStepOf (w x) at budget)
 
 -- What a step's numbers say: the key is told.
-abbrev pub heard : Cells nothing → Numbers → Or (Paced ℕ (Unit {0}))
+abbrev pub heard : IntMemory nothing → Numbers → Or (StepAnswer ℕ (Unit {0}))
 heard m n = heardAs (λ n. n .key) (λ n. tt) n
 
 -- The integer set's published calls.
@@ -77,11 +77,11 @@ Owes s x f len n = n ≡ counting COUNT (Finite.len f)
 Owes s x f is-empty n = n ≡ cond (eqb (Finite.len f) 0) (only EMPTY) (only HOLDS)
 Owes s x f (reserve a) n = n ≡ cond (leb a (sets .size (s .world x) - Finite.len f)) (only ROOM) (refusing 7 0)
 Owes s x f (copy y) n = n ≡ copying sets (s .world x) (s .world y) (only DONE)
-Owes s x f (get k) n = n ≡ looking sets (s .world x) f k (λ v i e. memberTold FOUND k i e) (λ e. standing ABSENT 0 0 e)
-Owes s x f (contains k) n = n ≡ looking sets (s .world x) f k (λ v i e. standing PRESENT 0 0 e) (λ e. standing ABSENT 0 0 e)
-Owes s x f (insert k) n = n ≡ placing sets (s .world x) f k (λ u i e. standing REPLACED 0 i e) (λ i e. standing FRESH 0 i e)
-Owes s x f (remove k) n = n ≡ looking sets (s .world x) f k (λ v i e. standing REMOVED 0 i e) (λ e. standing ABSENT 0 0 e)
-Owes s x f (step a b) n = Paces sets (s .world x) f keyTold a b n
+Owes s x f (get k) n = n ≡ looking sets (s .world x) f k (λ v i e. memberTold FOUND k i e) (λ e. lookingUp ABSENT 0 0 e)
+Owes s x f (contains k) n = n ≡ looking sets (s .world x) f k (λ v i e. lookingUp PRESENT 0 0 e) (λ e. lookingUp ABSENT 0 0 e)
+Owes s x f (insert k) n = n ≡ placing sets (s .world x) f k (λ u i e. lookingUp REPLACED 0 i e) (λ i e. lookingUp FRESH 0 i e)
+Owes s x f (remove k) n = n ≡ looking sets (s .world x) f k (λ v i e. lookingUp REMOVED 0 i e) (λ e. lookingUp ABSENT 0 0 e)
+Owes s x f (step a b) n = OwesStep sets (s .world x) f keyTold a b n
 
 -- What a call owes where the set of its table is known.
 abbrev pub owed : Duty sets published

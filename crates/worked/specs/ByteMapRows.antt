@@ -5,8 +5,8 @@ use mathlib.Core.List.{List, [], _∷_}
 use lib.Dec.{eqb}
 use Rattle.answers.specs.declared.Numbers.{Numbers}
 use Rattle.kinds.specs.Columns.{values}
-use Rattle.kinds.specs.Told.{Told, told}
-use Rattle.byte_slots.specs.Memory.{Strings}
+use Rattle.kinds.specs.Told.{ToldAndLeft, told}
+use Rattle.byte_slots.specs.Memory.{ByteMemory}
 use Rattle.byte_slots.specs.Kinds.{mapMemory}
 use Rattle.byte_map_entry.specs.declared.Entered.{Entered}
 use Rattle.byte_map_entry.specs.declared.Entered.the-variants.{Occupied}
@@ -14,15 +14,15 @@ use Rattle.promises.specs.ByteMap.{Call, make, clear, capacity, len, is-empty, 
 use Rattle.worked.specs.Rows.{Row}
 
 -- Another table, number 1.
-unfoldable pub other : Strings values
+unfoldable pub other : ByteMemory values
 other = mapMemory (0 ∷ 1 ∷ 0 ∷ 0 ∷ []) (0 ∷ 0 ∷ 0 ∷ 0 ∷ []) (0 ∷ 0 ∷ 0 ∷ 0 ∷ []) (0 ∷ 77 ∷ 0 ∷ 0 ∷ []) (0 ∷ 0 ∷ 0 ∷ [])
 
 -- What a call on the table 0 tells and leaves, by the definition that its contract cites.
-unfoldable pub done : Strings values → Call → Told (Strings values)
+unfoldable pub done : ByteMemory values → Call → ToldAndLeft (ByteMemory values)
 done m c = told-by (λ y. cond (eqb y 0) m other) 0 c
 
 -- Some memory of 4 slots and 3 arena bytes.
-unfoldable pub before : Strings values
+unfoldable pub before : ByteMemory values
 before = mapMemory (9 ∷ 1 ∷ 2 ∷ 0 ∷ []) (7 ∷ 7 ∷ 7 ∷ 7 ∷ []) (9 ∷ 9 ∷ 9 ∷ 9 ∷ []) (1 ∷ 2 ∷ 3 ∷ 4 ∷ []) (5 ∷ 6 ∷ 7 ∷ [])
 
 -- An entry's answer, occupied in slot 2.
@@ -33,10 +33,10 @@ held = Occupied (record { slot = 2 }) 32 4
 abbrev line : ℕ → ℕ → ℕ → ℕ → ℕ → ℕ → ℕ → ℕ → Numbers
 line r c v s e w o l = record { refusal = r; case = c; key = 0; value = v; slot = s; examined = e; walk = w; offset = o; length = l }
 
-abbrev row : Call → Numbers → List ℕ → List ℕ → List ℕ → List ℕ → List ℕ → Row Call (Strings values)
+abbrev row : Call → Numbers → List ℕ → List ℕ → List ℕ → List ℕ → List ℕ → Row Call (ByteMemory values)
 row c n marks offsets lengths vs arena = record { order = c; tells = told n (mapMemory marks offsets lengths vs arena) }
 
-unfoldable pub rows : List (Row Call (Strings values))
+unfoldable pub rows : List (Row Call (ByteMemory values))
 rows =
     -- make, on any memory: done, all 0
     row make (line 0 1 0 0 0 0 0 0) (0 ∷ 0 ∷ 0 ∷ 0 ∷ []) (0 ∷ 0 ∷ 0 ∷ 0 ∷ []) (0 ∷ 0 ∷ 0 ∷ 0 ∷ []) (0 ∷ 0 ∷ 0 ∷ 0 ∷ []) (0 ∷ 0 ∷ 0 ∷ []) ∷
@@ -100,10 +100,10 @@ rows =
     []
 
 -- A table with a live span past the arena in slot 0.
-unfoldable pub damaged : Strings values
+unfoldable pub damaged : ByteMemory values
 damaged = mapMemory (1 ∷ 0 ∷ 0 ∷ 0 ∷ []) (3 ∷ 0 ∷ 0 ∷ 0 ∷ []) (1 ∷ 0 ∷ 0 ∷ 0 ∷ []) (5 ∷ 0 ∷ 0 ∷ 0 ∷ []) (0 ∷ 0 ∷ 0 ∷ [])
 
-unfoldable pub damagedRows : List (Row Call (Strings values))
+unfoldable pub damagedRows : List (Row Call (ByteMemory values))
 damagedRows =
     -- "e" has its home in slot 0, whose span ends past the arena: refused 5
     row (get (101 ∷ [])) (line 5 0 0 0 0 0 0 0) (1 ∷ 0 ∷ 0 ∷ 0 ∷ []) (3 ∷ 0 ∷ 0 ∷ 0 ∷ []) (1 ∷ 0 ∷ 0 ∷ 0 ∷ []) (5 ∷ 0 ∷ 0 ∷ 0 ∷ []) (0 ∷ 0 ∷ 0 ∷ []) ∷
@@ -120,10 +120,10 @@ damagedRows =
     []
 
 -- A table whose only live span, "e", begins behind a gap.
-unfoldable pub gapped : Strings values
+unfoldable pub gapped : ByteMemory values
 gapped = mapMemory (1 ∷ 0 ∷ 0 ∷ 0 ∷ []) (1 ∷ 0 ∷ 0 ∷ 0 ∷ []) (1 ∷ 0 ∷ 0 ∷ 0 ∷ []) (5 ∷ 0 ∷ 0 ∷ 0 ∷ []) (0 ∷ 101 ∷ 0 ∷ [])
 
-unfoldable pub gappedRows : List (Row Call (Strings values))
+unfoldable pub gappedRows : List (Row Call (ByteMemory values))
 gappedRows =
     -- get looks at its path: found 5, slot 0, examined 1; len counts
     row (get (101 ∷ [])) (line 0 6 5 0 1 0 0 0) (1 ∷ 0 ∷ 0 ∷ 0 ∷ []) (1 ∷ 0 ∷ 0 ∷ 0 ∷ []) (1 ∷ 0 ∷ 0 ∷ 0 ∷ []) (5 ∷ 0 ∷ 0 ∷ 0 ∷ []) (0 ∷ 101 ∷ 0 ∷ []) ∷
@@ -136,10 +136,10 @@ gappedRows =
     []
 
 -- Arrays that disagree in length: an offset too few.
-unfoldable pub uneven : Strings values
+unfoldable pub uneven : ByteMemory values
 uneven = mapMemory (0 ∷ 0 ∷ 0 ∷ 0 ∷ []) (0 ∷ 0 ∷ 0 ∷ []) (0 ∷ 0 ∷ 0 ∷ 0 ∷ []) (0 ∷ 0 ∷ 0 ∷ 0 ∷ []) (0 ∷ 0 ∷ 0 ∷ [])
 
-unfoldable pub unevenRows : List (Row Call (Strings values))
+unfoldable pub unevenRows : List (Row Call (ByteMemory values))
 unevenRows =
     -- every call is refused 1, before anything else
     row make (line 1 0 0 0 0 0 0 0) (0 ∷ 0 ∷ 0 ∷ 0 ∷ []) (0 ∷ 0 ∷ 0 ∷ []) (0 ∷ 0 ∷ 0 ∷ 0 ∷ []) (0 ∷ 0 ∷ 0 ∷ 0 ∷ []) (0 ∷ 0 ∷ 0 ∷ []) ∷

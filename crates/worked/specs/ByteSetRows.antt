@@ -5,32 +5,32 @@ use mathlib.Core.List.{List, [], _∷_}
 use lib.Dec.{eqb}
 use Rattle.answers.specs.declared.Numbers.{Numbers}
 use Rattle.kinds.specs.Columns.{nothing}
-use Rattle.kinds.specs.Told.{Told, told}
-use Rattle.byte_slots.specs.Memory.{Strings}
+use Rattle.kinds.specs.Told.{ToldAndLeft, told}
+use Rattle.byte_slots.specs.Memory.{ByteMemory}
 use Rattle.byte_slots.specs.Kinds.{setMemory}
 use Rattle.promises.specs.ByteSet.{Call, make, clear, capacity, len, is-empty, reserve, get, contains, insert, remove, copy, step, told-by}
 use Rattle.worked.specs.Rows.{Row}
 
 -- Another table, number 1.
-unfoldable pub other : Strings nothing
+unfoldable pub other : ByteMemory nothing
 other = setMemory (0 ∷ 0 ∷ 1 ∷ 0 ∷ []) (0 ∷ 0 ∷ 0 ∷ 0 ∷ []) (0 ∷ 0 ∷ 1 ∷ 0 ∷ []) (103 ∷ 0 ∷ 0 ∷ [])
 
 -- What a call on the table 0 tells and leaves, by the definition that its contract cites.
-unfoldable pub done : Strings nothing → Call → Told (Strings nothing)
+unfoldable pub done : ByteMemory nothing → Call → ToldAndLeft (ByteMemory nothing)
 done m c = told-by (λ y. cond (eqb y 0) m other) 0 c
 
 -- Some memory of 4 slots and 3 arena bytes.
-unfoldable pub before : Strings nothing
+unfoldable pub before : ByteMemory nothing
 before = setMemory (9 ∷ 1 ∷ 2 ∷ 0 ∷ []) (7 ∷ 7 ∷ 7 ∷ 7 ∷ []) (9 ∷ 9 ∷ 9 ∷ 9 ∷ []) (5 ∷ 6 ∷ 7 ∷ [])
 
 -- refusal, case, value, slot, examined, walk, offset, length
 abbrev line : ℕ → ℕ → ℕ → ℕ → ℕ → ℕ → ℕ → ℕ → Numbers
 line r c v s e w o l = record { refusal = r; case = c; key = 0; value = v; slot = s; examined = e; walk = w; offset = o; length = l }
 
-abbrev row : Call → Numbers → List ℕ → List ℕ → List ℕ → List ℕ → Row Call (Strings nothing)
+abbrev row : Call → Numbers → List ℕ → List ℕ → List ℕ → List ℕ → Row Call (ByteMemory nothing)
 row c n marks offsets lengths arena = record { order = c; tells = told n (setMemory marks offsets lengths arena) }
 
-unfoldable pub rows : List (Row Call (Strings nothing))
+unfoldable pub rows : List (Row Call (ByteMemory nothing))
 rows =
     -- make, on any memory: done, all 0
     row make (line 0 1 0 0 0 0 0 0) (0 ∷ 0 ∷ 0 ∷ 0 ∷ []) (0 ∷ 0 ∷ 0 ∷ 0 ∷ []) (0 ∷ 0 ∷ 0 ∷ 0 ∷ []) (0 ∷ 0 ∷ 0 ∷ []) ∷
@@ -73,10 +73,10 @@ rows =
     []
 
 -- A table with a live span past the arena in slot 0.
-unfoldable pub damaged : Strings nothing
+unfoldable pub damaged : ByteMemory nothing
 damaged = setMemory (1 ∷ 0 ∷ 0 ∷ 0 ∷ []) (3 ∷ 0 ∷ 0 ∷ 0 ∷ []) (1 ∷ 0 ∷ 0 ∷ 0 ∷ []) (0 ∷ 0 ∷ 0 ∷ [])
 
-unfoldable pub damagedRows : List (Row Call (Strings nothing))
+unfoldable pub damagedRows : List (Row Call (ByteMemory nothing))
 damagedRows =
     -- "e" has its home in slot 0, whose span ends past the arena: refused 5
     row (get (101 ∷ [])) (line 5 0 0 0 0 0 0 0) (1 ∷ 0 ∷ 0 ∷ 0 ∷ []) (3 ∷ 0 ∷ 0 ∷ 0 ∷ []) (1 ∷ 0 ∷ 0 ∷ 0 ∷ []) (0 ∷ 0 ∷ 0 ∷ []) ∷
@@ -91,10 +91,10 @@ damagedRows =
     []
 
 -- Arrays that disagree in length: a length too many.
-unfoldable pub uneven : Strings nothing
+unfoldable pub uneven : ByteMemory nothing
 uneven = setMemory (0 ∷ 0 ∷ 0 ∷ 0 ∷ []) (0 ∷ 0 ∷ 0 ∷ 0 ∷ []) (0 ∷ 0 ∷ 0 ∷ 0 ∷ 0 ∷ []) (0 ∷ 0 ∷ 0 ∷ [])
 
-unfoldable pub unevenRows : List (Row Call (Strings nothing))
+unfoldable pub unevenRows : List (Row Call (ByteMemory nothing))
 unevenRows =
     -- every call is refused 1, before anything else
     row make (line 1 0 0 0 0 0 0 0) (0 ∷ 0 ∷ 0 ∷ 0 ∷ []) (0 ∷ 0 ∷ 0 ∷ 0 ∷ []) (0 ∷ 0 ∷ 0 ∷ 0 ∷ 0 ∷ []) (0 ∷ 0 ∷ 0 ∷ []) ∷

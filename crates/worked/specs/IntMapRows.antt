@@ -5,23 +5,23 @@ use mathlib.Core.List.{List, [], _∷_}
 use lib.Dec.{eqb}
 use Rattle.answers.specs.declared.Numbers.{Numbers}
 use Rattle.kinds.specs.Columns.{values}
-use Rattle.kinds.specs.Told.{Told, told}
-use Rattle.int_slots.specs.Memory.{Cells, memory}
+use Rattle.kinds.specs.Told.{ToldAndLeft, told}
+use Rattle.int_slots.specs.Memory.{IntMemory, memory}
 use Rattle.int_map_entry.specs.declared.Entered.{Entered}
 use Rattle.int_map_entry.specs.declared.Entered.the-variants.{Occupied}
 use Rattle.promises.specs.IntMap.{Call, make, clear, capacity, len, is-empty, reserve, get, contains-key, remove, entry, copy, union-prefer-right, insert, occupied-get, occupied-remove, occupied-remove-entry, step, occupied-set, vacant-insert, or-insert, insert-entry, told-by}
 use Rattle.worked.specs.Rows.{Row}
 
 -- Another table, number 1.
-unfoldable pub other : Cells values
+unfoldable pub other : IntMemory values
 other = memory (0 ∷ 1 ∷ 0 ∷ 0 ∷ []) (0 ∷ 12 ∷ 0 ∷ 0 ∷ []) (0 ∷ 99 ∷ 0 ∷ 0 ∷ [])
 
 -- What a call on the table 0 tells and leaves, by the definition that its contract cites.
-unfoldable pub done : Cells values → Call → Told (Cells values)
+unfoldable pub done : IntMemory values → Call → ToldAndLeft (IntMemory values)
 done m c = told-by (λ y. cond (eqb y 0) m other) 0 c
 
 -- Some memory of 4 slots.
-unfoldable pub before : Cells values
+unfoldable pub before : IntMemory values
 before = memory (9 ∷ 1 ∷ 2 ∷ 0 ∷ []) (5 ∷ 6 ∷ 7 ∷ 8 ∷ []) (1 ∷ 2 ∷ 3 ∷ 4 ∷ [])
 
 -- An entry's answer, occupied in slot 2.
@@ -32,10 +32,10 @@ held = Occupied (record { slot = 2 }) 50 4
 abbrev line : ℕ → ℕ → ℕ → ℕ → ℕ → ℕ → ℕ → Numbers
 line r c k v s e w = record { refusal = r; case = c; key = k; value = v; slot = s; examined = e; walk = w; offset = 0; length = 0 }
 
-abbrev row : Call → Numbers → List ℕ → List ℕ → List ℕ → Row Call (Cells values)
+abbrev row : Call → Numbers → List ℕ → List ℕ → List ℕ → Row Call (IntMemory values)
 row c n marks keys vs = record { order = c; tells = told n (memory marks keys vs) }
 
-unfoldable pub rows : List (Row Call (Cells values))
+unfoldable pub rows : List (Row Call (IntMemory values))
 rows =
     -- make, on any memory: done, all 0
     row make (line 0 1 0 0 0 0 0) (0 ∷ 0 ∷ 0 ∷ 0 ∷ []) (0 ∷ 0 ∷ 0 ∷ 0 ∷ []) (0 ∷ 0 ∷ 0 ∷ 0 ∷ []) ∷
@@ -123,10 +123,10 @@ rows =
     []
 
 -- A table with a mark above 2 in slot 0.
-unfoldable pub damaged : Cells values
+unfoldable pub damaged : IntMemory values
 damaged = memory (9 ∷ 1 ∷ 0 ∷ 0 ∷ []) (1 ∷ 12 ∷ 0 ∷ 0 ∷ []) (5 ∷ 6 ∷ 0 ∷ 0 ∷ [])
 
-unfoldable pub damagedRows : List (Row Call (Cells values))
+unfoldable pub damagedRows : List (Row Call (IntMemory values))
 damagedRows =
     -- key 1 has its home in the damaged slot 0: refused 5
     row (get 1) (line 5 0 0 0 0 0 0) (9 ∷ 1 ∷ 0 ∷ 0 ∷ []) (1 ∷ 12 ∷ 0 ∷ 0 ∷ []) (5 ∷ 6 ∷ 0 ∷ 0 ∷ []) ∷
@@ -149,10 +149,10 @@ damagedRows =
     []
 
 -- Arrays that disagree in length: a value too many.
-unfoldable pub uneven : Cells values
+unfoldable pub uneven : IntMemory values
 uneven = memory (0 ∷ 0 ∷ 0 ∷ 0 ∷ []) (0 ∷ 0 ∷ 0 ∷ 0 ∷ []) (0 ∷ 0 ∷ 0 ∷ 0 ∷ 0 ∷ [])
 
-unfoldable pub unevenRows : List (Row Call (Cells values))
+unfoldable pub unevenRows : List (Row Call (IntMemory values))
 unevenRows =
     -- every call is refused 1, before anything else
     row make (line 1 0 0 0 0 0 0) (0 ∷ 0 ∷ 0 ∷ 0 ∷ []) (0 ∷ 0 ∷ 0 ∷ 0 ∷ []) (0 ∷ 0 ∷ 0 ∷ 0 ∷ 0 ∷ []) ∷

@@ -5,32 +5,32 @@ use mathlib.Core.List.{List, [], _∷_}
 use lib.Dec.{eqb}
 use Rattle.answers.specs.declared.Numbers.{Numbers}
 use Rattle.kinds.specs.Columns.{nothing}
-use Rattle.kinds.specs.Told.{Told, told}
-use Rattle.int_slots.specs.Memory.{Cells}
+use Rattle.kinds.specs.Told.{ToldAndLeft, told}
+use Rattle.int_slots.specs.Memory.{IntMemory}
 use Rattle.int_slots.specs.Sets.{memory}
 use Rattle.promises.specs.IntSet.{Call, make, clear, capacity, len, is-empty, reserve, get, contains, insert, remove, copy, step, told-by}
 use Rattle.worked.specs.Rows.{Row}
 
 -- Another table, number 1.
-unfoldable pub other : Cells nothing
+unfoldable pub other : IntMemory nothing
 other = memory (1 ∷ 0 ∷ 0 ∷ 0 ∷ []) (1 ∷ 0 ∷ 0 ∷ 0 ∷ [])
 
 -- What a call on the table 0 tells and leaves, by the definition that its contract cites.
-unfoldable pub done : Cells nothing → Call → Told (Cells nothing)
+unfoldable pub done : IntMemory nothing → Call → ToldAndLeft (IntMemory nothing)
 done m c = told-by (λ y. cond (eqb y 0) m other) 0 c
 
 -- Some memory of 4 slots.
-unfoldable pub before : Cells nothing
+unfoldable pub before : IntMemory nothing
 before = memory (9 ∷ 1 ∷ 2 ∷ 0 ∷ []) (5 ∷ 6 ∷ 7 ∷ 8 ∷ [])
 
 -- refusal, case, key, value, slot, examined, walk
 abbrev line : ℕ → ℕ → ℕ → ℕ → ℕ → ℕ → ℕ → Numbers
 line r c k v s e w = record { refusal = r; case = c; key = k; value = v; slot = s; examined = e; walk = w; offset = 0; length = 0 }
 
-abbrev row : Call → Numbers → List ℕ → List ℕ → Row Call (Cells nothing)
+abbrev row : Call → Numbers → List ℕ → List ℕ → Row Call (IntMemory nothing)
 row c n marks keys = record { order = c; tells = told n (memory marks keys) }
 
-unfoldable pub rows : List (Row Call (Cells nothing))
+unfoldable pub rows : List (Row Call (IntMemory nothing))
 rows =
     -- make, on any memory: done, all 0
     row make (line 0 1 0 0 0 0 0) (0 ∷ 0 ∷ 0 ∷ 0 ∷ []) (0 ∷ 0 ∷ 0 ∷ 0 ∷ []) ∷
@@ -70,10 +70,10 @@ rows =
     []
 
 -- A table with a mark above 2 in slot 0.
-unfoldable pub damaged : Cells nothing
+unfoldable pub damaged : IntMemory nothing
 damaged = memory (9 ∷ 1 ∷ 0 ∷ 0 ∷ []) (1 ∷ 12 ∷ 0 ∷ 0 ∷ [])
 
-unfoldable pub damagedRows : List (Row Call (Cells nothing))
+unfoldable pub damagedRows : List (Row Call (IntMemory nothing))
 damagedRows =
     -- key 1 has its home in the damaged slot 0: refused 5
     row (get 1) (line 5 0 0 0 0 0 0) (9 ∷ 1 ∷ 0 ∷ 0 ∷ []) (1 ∷ 12 ∷ 0 ∷ 0 ∷ []) ∷
@@ -91,10 +91,10 @@ damagedRows =
     []
 
 -- Arrays that disagree in length: a key too many.
-unfoldable pub uneven : Cells nothing
+unfoldable pub uneven : IntMemory nothing
 uneven = memory (0 ∷ 0 ∷ 0 ∷ 0 ∷ []) (0 ∷ 0 ∷ 0 ∷ 0 ∷ 0 ∷ [])
 
-unfoldable pub unevenRows : List (Row Call (Cells nothing))
+unfoldable pub unevenRows : List (Row Call (IntMemory nothing))
 unevenRows =
     -- every call is refused 1, before anything else
     row make (line 1 0 0 0 0 0 0) (0 ∷ 0 ∷ 0 ∷ 0 ∷ []) (0 ∷ 0 ∷ 0 ∷ 0 ∷ 0 ∷ []) ∷

@@ -1,6 +1,6 @@
 -- `int_map_occupied::value_in` meets its contract: damage, the live slot with the key, or no good handle.
 use borrow.Author.Tests.{eq-eqb, ne-eqb}
-use Rattle.model.specs.Calls.{need, gripOn}
+use Rattle.model.specs.Calls.{need, heldOn}
 use Rattle.kinds.specs.Marks.{cell}
 use Rattle.kinds.proofs.Scanning.{cell-bad}
 use Rattle.answers.specs.Said.{heldSaid}
@@ -10,15 +10,15 @@ use Rattle.int_map_occupied.proofs.value_in.Statement.{statement}
 use Rattle.int_map_occupied.proofs.value_in.Tie as tie
 
 returns : tie.Need-returns
-unfolding heldNumbers heldSaid gripOn
+unfolding heldNumbers heldSaid heldOn
 returns c = rw (cell-bad _ _ _ (c .if1 .taken))
 
 returns-2 : tie.Need-returns-2
-unfolding heldNumbers heldSaid gripOn cell need
+unfolding heldNumbers heldSaid heldOn cell need
 returns-2 c = rw (c .before .if2 .taken, eq-eqb _ _ (c .if3 .taken))
 
 returns-3 : tie.Need-returns-3
-unfolding heldNumbers heldSaid gripOn cell need
+unfolding heldNumbers heldSaid heldOn cell need
 returns-3 c = rw (c .before .if2 .taken, ne-eqb _ _ (c .if3 .left))
 
 returns-4 : tie.Need-returns-4
