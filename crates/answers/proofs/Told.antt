@@ -8,6 +8,7 @@ use native.Mathlib.Omega.{arith}
 use borrow.Author.Tests.{eqb-false}
 use lib.Dec.{eqb}
 use lib.ListN.{getD}
+use Rattle.answers.specs.Cases.{DONE}
 use Rattle.answers.specs.declared.Refusal.{Refusal}
 use Rattle.answers.specs.declared.Refusal.the-variants.{Sizes, LongKey, NoBudget, WalkBeyond, Damaged, BadHandle, NoSlot, NoBytes}
 use Rattle.answers.specs.declared.Homed.{Homed}
@@ -59,7 +60,7 @@ homedNumbers-injective (Refused r) (At s) e = other-case e refl
 homedNumbers-injective (Refused r) (Refused s) e = ap Refused (numberOf-injective r s (ap (λ n. n .refusal) e))
 
 -- The home slot is told as case 1 with the slot.
-pub homed-slot : (s : ℕ) → (homedNumbers (At s) .refusal ≡ 0) × (homedNumbers (At s) .case ≡ 1) × (homedNumbers (At s) .slot ≡ s)
+pub homed-slot : (s : ℕ) → (homedNumbers (At s) .refusal ≡ 0) × (homedNumbers (At s) .case ≡ DONE) × (homedNumbers (At s) .slot ≡ s)
 homed-slot s = (refl, refl, refl)
 
 -- A refusal is told by its number.

@@ -1,11 +1,10 @@
--- What the tests and callees of each call say of its definition: one law for each return of the code.
+-- What the acts of the storing calls leave is what their definitions say.
 use Prim.Native.Nat.{ℕ}
 use mathlib.Core.Bool.{Bool, true}
 use mathlib.Core.List.{List}
 use mathlib.Core.Path.{_≡_, sym, _∙_}
 use lib.ListN.{length, getD, set, replicate}
-use Rattle.model.specs.Calls.{entry, storedBy, after-insert, remove, removedBy, after-remove}
-use Rattle.answers.specs.declared.Refusal.{Refusal}
+use Rattle.model.specs.Calls.{storedBy, removedBy}
 use Rattle.answers.specs.declared.Outcome.the-variants as outcome
 use Rattle.answers.specs.declared.Stored.the-variants as stored
 use Rattle.answers.specs.declared.Removed.the-variants as removed
@@ -25,9 +24,8 @@ use Rattle.byte_slots.specs.declared.RemovePlan.the-variants as removePlan
 use Rattle.byte_slots.specs.Memory.{Spans, ByteMemory, filled, emptied, wiped}
 use Rattle.byte_slots.specs.Kinds.{maps, mapMemory, insertOf}
 use Rattle.byte_slots.specs.Planning.{planningMapInsert, planningMapRemove}
-use Rattle.byte_slots.proofs.Bridge.{spotOf, lostOf}
+use Rattle.byte_slots.proofs.Calls.{insert-says, remove-says}
 use Rattle.byte_slots.proofs.MapSizes.{sized-fits, same-long}
-use Rattle.byte_slots.proofs.Planning.{entry-planned, remove-planned}
 use Rattle.byte_arena.proofs.Copies.{spans-copied}
 use Rattle.byte_arena.proofs.Plans.{map-plan-insert-free}
 
@@ -44,36 +42,11 @@ module _ (m : ByteMemory values) where
       copy-sized maps m n (sized-as maps m p q) (sized-as maps n r s) e f
       (rw (spans-copied (m .spans) (n .spans) (sized-fits m p q) (sized-fits n r s) e f x y z w, copied-whole (m .words) (n .words) (c ∙ e ∙ sym h) v))
 
-  -- insert, by its plan
-  module _ (k : List ℕ) (v : ℕ) {r : InsertPlan} (p : r ≡ planningMapInsert m k) where
-    entry-is : entry maps m k ≡ spotOf (λ i. getD (m .words) i 0) r
-    entry-is = rw p (entry-planned m k)
+  -- a fresh key, and a removed one
+  pub insert-fresh : (k : List ℕ) (v : ℕ) {r : InsertPlan} → r ≡ planningMapInsert m k → {i e u : ℕ} {s : Spans} → r ≡ insertPlan.Free i e u → s ≡ filled (m .spans) i k → told (storedNumbers (stored.Fresh i u e)) (record { spans = s; words = set (m .words) i v }) ≡ insertOf m k v
+  unfolding storedNumbers storedSaid storedBy
+  insert-fresh k v p q x = rw (x, map-plan-insert-free m k p q .0 .used) (insert-says m k p q v)
 
-    pub insert-hit : {i e : ℕ} → r ≡ insertPlan.Hit i e → told (storedNumbers (stored.Replaced (getD (m .words) i 0) i e)) (record { spans = m .spans; words = set (m .words) i v }) ≡ insertOf m k v
-    unfolding insertOf after-insert storedBy storedSaid storedNumbers
-    insert-hit q = rw (entry-is, q)
-
-    pub insert-free : {i e u : ℕ} → r ≡ insertPlan.Free i e u → {s : Spans} → s ≡ filled (m .spans) i k → told (storedNumbers (stored.Fresh i u e)) (record { spans = s; words = set (m .words) i v }) ≡ insertOf m k v
-    unfolding insertOf after-insert storedBy storedSaid storedNumbers
-    insert-free q x = rw (entry-is, q, x, map-plan-insert-free m k p q .0 .used)
-
-    pub insert-refused : {x : Refusal} → r ≡ insertPlan.Refused x → told (storedNumbers (stored.Refused x)) m ≡ insertOf m k v
-    unfolding insertOf after-insert storedBy storedSaid storedNumbers
-    insert-refused q = rw (entry-is, q)
-
-  -- remove, by its plan
-  module _ (k : List ℕ) {r : RemovePlan} (p : r ≡ planningMapRemove m k) where
-    remove-is : remove maps m k ≡ lostOf (λ i. getD (m .words) i 0) r
-    remove-is = rw p (remove-planned m k)
-
-    pub remove-hit : {i e u : ℕ} → r ≡ removePlan.Hit i e u → {s : Spans} → s ≡ emptied (m .spans) i → told (removedNumbers (removed.Removed (getD (m .words) i 0) i e)) (record { spans = s; words = set (m .words) i 0 }) ≡ removeOf maps m k
-    unfolding removeOf after-remove removedBy removedSaid removedNumbers
-    remove-hit q x = rw (remove-is, q, x)
-
-    pub remove-absent : {e : ℕ} → r ≡ removePlan.Absent e → told (removedNumbers (removed.Absent e)) m ≡ removeOf maps m k
-    unfolding removeOf after-remove removedBy removedSaid removedNumbers
-    remove-absent q = rw (remove-is, q)
-
-    pub remove-refused : {x : Refusal} → r ≡ removePlan.Refused x → told (removedNumbers (removed.Refused x)) m ≡ removeOf maps m k
-    unfolding removeOf after-remove removedBy removedSaid removedNumbers
-    remove-refused q = rw (remove-is, q)
+  pub remove-hit : (k : List ℕ) {r : RemovePlan} → r ≡ planningMapRemove m k → {i e u : ℕ} {s : Spans} → r ≡ removePlan.Hit i e u → s ≡ emptied (m .spans) i → told (removedNumbers (removed.Removed (getD (m .words) i 0) i e)) (record { spans = s; words = set (m .words) i 0 }) ≡ removeOf maps m k
+  unfolding removedNumbers removedSaid removedBy
+  remove-hit k p q x = rw x (remove-says m k p q)

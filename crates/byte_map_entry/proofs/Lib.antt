@@ -1,5 +1,4 @@
 -- The laws of the byte map's entries.
 pub mod Equal
-pub mod Plans
 pub mod Answers
 pub mod Settled

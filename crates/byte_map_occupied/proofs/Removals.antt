@@ -10,7 +10,8 @@ use lib.ListN.{length, getD, set}
 use Rattle.model.specs.Calls.{Or, no, ok, need, pass, occupied-remove, after-drop, acted}
 use Rattle.model.proofs.Cases.{by-bool, by-lt, clash}
 use Rattle.answers.specs.declared.Refusal.{Refusal}
-use Rattle.answers.specs.declared.Refusal.the-variants.{Sizes, LongKey, Damaged}
+use Rattle.answers.specs.declared.Refusal.the-variants.{Sizes, LongKey}
+use Rattle.answers.specs.declared.Refusal.the-variants as refusal
 use Rattle.answers.specs.Refusals.{numberOf}
 use Rattle.answers.specs.Said.{takenSaid}
 use Rattle.kinds.specs.declared.Sight.{Sight}
@@ -66,7 +67,7 @@ held-same : (i w u v x : ℕ) (s : Sight) → removalPlanBy u (heldBy i w s) ≡
 unfolding heldBy removalPlanBy
 held-same i w u v x Never e = clash cc
 held-same i w u v x Freed e = clash cc
-held-same i w u v x Bad e = clash cc
+held-same i w u v x Damaged e = clash cc
 held-same i w u v x Same e = (refl, cc)
 held-same i w u v x Other e = clash cc
 
@@ -83,7 +84,7 @@ module _ (m : ByteMemory values) (i : ℕ) (k : List ℕ) where
       removal-long e = rw (sym p ∙ q, sym w ∙ e)
 
       module _ (e : t ≡ true) {r : Surveyed} (v : r ≡ surveying (m .spans)) where
-        pub removal-bad : r ≡ surveyed.Damaged → removalPlan.Refused Damaged ≡ planningRemoval m i k
+        pub removal-bad : r ≡ surveyed.Damaged → removalPlan.Refused refusal.Damaged ≡ planningRemoval m i k
         unfolding planningRemoval
         removal-bad x = rw (sym p ∙ q, sym w ∙ e, surveyed-bad (m .spans) v x)
 

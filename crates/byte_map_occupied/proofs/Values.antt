@@ -53,7 +53,7 @@ held-slot : (i v w : ℕ) {h : Occupied} (s : Sight) → heldBy i v s ≡ held.V
 unfolding heldBy
 held-slot i v w Never e = clash cc
 held-slot i v w Freed e = clash cc
-held-slot i v w Bad e = clash cc
+held-slot i v w Damaged e = clash cc
 held-slot i v w Same e = cc
 held-slot i v w Other e = clash cc
 

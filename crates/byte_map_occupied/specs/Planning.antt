@@ -21,7 +21,7 @@ use Rattle.byte_map_occupied.specs.declared.RemovalPlan.the-variants as 
 unfoldable pub heldBy : ℕ → ℕ → Sight → Held
 heldBy i v Never = held.Refused refusal.BadHandle
 heldBy i v Freed = held.Refused refusal.BadHandle
-heldBy i v Bad = held.Refused refusal.Damaged
+heldBy i v Damaged = held.Refused refusal.Damaged
 heldBy i v Same = held.Value v (record { slot = i })
 heldBy i v Other = held.Refused refusal.BadHandle
 

@@ -1,10 +1,10 @@
--- What the tests and callees of each call say of its definition. A path call has one law, by what its plan says.
+-- What the acts of the storing calls leave is what their definitions say.
 use Prim.Native.Nat.{ℕ}
 use mathlib.Core.Bool.{Bool, true}
 use mathlib.Core.List.{List}
-use mathlib.Core.Path.{_≡_, refl, sym, _∙_}
+use mathlib.Core.Path.{_≡_, sym, _∙_}
 use lib.ListN.{length}
-use Rattle.model.specs.Calls.{storedBy, after-insert, removedBy, after-remove}
+use Rattle.model.specs.Calls.{storedBy, removedBy}
 use Rattle.answers.specs.declared.Outcome.the-variants as outcome
 use Rattle.answers.specs.declared.Joined.the-variants as joined
 use Rattle.answers.specs.declared.Dropped.the-variants as dropped
@@ -12,7 +12,6 @@ use Rattle.answers.specs.Numbers.{outcomeNumbers, joinedNumbers, droppedNumbers
 use Rattle.answers.specs.Said.{joinedSaid, droppedSaid}
 use Rattle.arrays.specs.Whole.{copied}
 use Rattle.kinds.specs.Calls.{makeOf, copyOf, droppedOf}
-use Rattle.kinds.specs.Columns.{nothing}
 use Rattle.kinds.specs.Told.{told}
 use Rattle.kinds.proofs.Copying.{copy-sized}
 use Rattle.kinds.proofs.Sizing.{make-sized}
@@ -20,10 +19,10 @@ use Rattle.byte_slots.specs.declared.InsertPlan.{InsertPlan}
 use Rattle.byte_slots.specs.declared.InsertPlan.the-variants as insertPlan
 use Rattle.byte_slots.specs.declared.RemovePlan.{RemovePlan}
 use Rattle.byte_slots.specs.declared.RemovePlan.the-variants as removePlan
-use Rattle.byte_slots.specs.Memory.{Spans, spansOf, usedOf, fitting, filled, emptied, wiped}
+use Rattle.byte_slots.specs.Memory.{Spans, spansOf, fitting, filled, emptied, wiped}
 use Rattle.byte_slots.specs.Kinds.{sets, setInsertOf}
 use Rattle.byte_slots.specs.Planning.{planningInsert, planningRemove}
-use Rattle.byte_slots.proofs.Bridge.{spotOf, lostOf, remove-planning, entry-planning}
+use Rattle.byte_slots.proofs.Calls.{set-insert-says, set-remove-says}
 use Rattle.byte_slots.proofs.Sets.{setOf, fit}
 use Rattle.byte_arena.proofs.Copies.{spans-copied}
 use Rattle.byte_arena.proofs.Plans.{plan-fillable}
@@ -37,22 +36,11 @@ module _ (s : Spans) where
     pub copy-done : (t : Spans) {d : Bool} → d ≡ fitting t → d ≡ true → length (s .marks) ≡ length (t .marks) → length (s .arena) ≡ length (t .arena) → {x y z w : List ℕ} → x ≡ copied (s .marks) (t .marks) → y ≡ copied (s .offsets) (t .offsets) → z ≡ copied (s .lengths) (t .lengths) → w ≡ copied (s .arena) (t .arena) → told (outcomeNumbers outcome.Done) (setOf (spansOf x y z w)) ≡ copyOf sets (setOf s) (setOf t)
     copy-done t r h e a x y z w = copy-sized sets (setOf s) (setOf t) (fit s p q) (fit t r h) e a (rw (spans-copied s t (sym p ∙ q) (sym r ∙ h) e a x y z w))
 
-  -- insert, by its plan
-  module _ (k : List ℕ) {r : InsertPlan} (p : r ≡ planningInsert s k) where
-    pub insert-says : {x : InsertPlan} → r ≡ x → told (joinedSaid (usedOf s) (spotOf {W = Unit {0}} (λ i. tt) x)) (storedBy sets (setOf s) k tt (spotOf (λ i. tt) x)) ≡ setInsertOf (setOf s) k
-    unfolding setInsertOf after-insert
-    insert-says q = rw (entry-planning nothing (setOf s) k refl, ← p, q)
+  -- a fresh key, and a removed one
+  pub insert-fresh : (k : List ℕ) {r : InsertPlan} → r ≡ planningInsert s k → {i e u : ℕ} {t : Spans} → r ≡ insertPlan.Free i e u → t ≡ filled s i k → told (joinedNumbers (joined.Fresh i u e)) (setOf t) ≡ setInsertOf (setOf s) k
+  unfolding joinedNumbers joinedSaid storedBy
+  insert-fresh k p q x = rw (x, plan-fillable s k p q .used) (set-insert-says s k p q)
 
-    pub insert-fresh : {i e u : ℕ} {t : Spans} → r ≡ insertPlan.Free i e u → t ≡ filled s i k → told (joinedNumbers (joined.Fresh i u e)) (setOf t) ≡ setInsertOf (setOf s) k
-    unfolding joinedNumbers joinedSaid storedBy
-    insert-fresh q x = rw (x, plan-fillable s k p q .used) (insert-says q)
-
-  -- remove, by its plan
-  module _ (k : List ℕ) {r : RemovePlan} (p : r ≡ planningRemove s k) where
-    pub remove-says : {x : RemovePlan} → r ≡ x → told (droppedSaid (lostOf {W = Unit {0}} (λ i. tt) x)) (removedBy sets (setOf s) (lostOf (λ i. tt) x)) ≡ droppedOf sets (setOf s) k
-    unfolding droppedOf after-remove
-    remove-says q = rw (remove-planning nothing (setOf s) k refl, ← p, q)
-
-    pub remove-hit : {i e u : ℕ} {t : Spans} → r ≡ removePlan.Hit i e u → t ≡ emptied s i → told (droppedNumbers (dropped.Removed i e)) (setOf t) ≡ droppedOf sets (setOf s) k
-    unfolding droppedNumbers droppedSaid removedBy
-    remove-hit q x = rw x (remove-says q)
+  pub remove-hit : (k : List ℕ) {r : RemovePlan} → r ≡ planningRemove s k → {i e u : ℕ} {t : Spans} → r ≡ removePlan.Hit i e u → t ≡ emptied s i → told (droppedNumbers (dropped.Removed i e)) (setOf t) ≡ droppedOf sets (setOf s) k
+  unfolding droppedNumbers droppedSaid removedBy
+  remove-hit k p q x = rw x (set-remove-says s k p q)

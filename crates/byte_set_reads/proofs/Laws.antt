@@ -1,29 +1,28 @@
--- What the tests and callees of each call say of its definition. A path call has one law, by what the probing found.
+-- What the scan says of len, and the probing of a found key.
 use Prim.Native.Nat.{ℕ, _<_}
 use mathlib.Core.Bool.{Bool, true}
 use mathlib.Core.List.{List}
-use mathlib.Core.Path.{_≡_, refl}
+use mathlib.Core.Path.{_≡_}
 use native.Mathlib.Omega.{arith}
 use lib.ListN.{length, getD}
-use Rattle.model.specs.Calls as model
 use Rattle.answers.specs.declared.Refusal.the-variants.{Damaged}
 use Rattle.answers.specs.declared.Counted.the-variants as counted
 use Rattle.answers.specs.declared.Spanned.the-variants as spanned
 use Rattle.answers.specs.Numbers.{countedNumbers, spannedNumbers}
-use Rattle.answers.specs.Said.{spannedSaid, containedSaid}
+use Rattle.answers.specs.Said.{spannedSaid}
 use Rattle.kinds.specs.declared.Probed.{Probed}
 use Rattle.kinds.specs.declared.Probed.the-variants as probed
 use Rattle.kinds.specs.declared.Scanned.{Scanned}
 use Rattle.kinds.specs.declared.Scanned.the-variants as scanned
-use Rattle.kinds.specs.Calls.{lenOf, containsOf}
+use Rattle.kinds.specs.Calls.{lenOf}
 use Rattle.kinds.specs.Columns.{nothing}
-use Rattle.kinds.proofs.Bridge.{seenOf}
 use Rattle.kinds.proofs.Sizing.{len-live, len-damaged}
-use Rattle.byte_slots.specs.Memory.{Spans, fitting, offsetAt, lengthAt}
+use Rattle.byte_slots.specs.Memory.{Spans, fitting}
 use Rattle.byte_slots.specs.Kinds.{sets, setGetOf}
 use Rattle.byte_slots.specs.Probing.{probing}
 use Rattle.byte_slots.specs.Scanning.{scanning}
-use Rattle.byte_slots.proofs.Bridge.{probing-inside, get-probing, scan-live, scan-bad}
+use Rattle.byte_slots.proofs.Bridge.{probing-inside, scan-live, scan-bad}
+use Rattle.byte_slots.proofs.Calls.{set-get-says}
 use Rattle.byte_slots.proofs.Sets.{setOf, fit}
 
 module _ (s : Spans) where
@@ -35,20 +34,8 @@ module _ (s : Spans) where
     pub len-bad : r ≡ scanned.Damaged → countedNumbers (counted.Refused Damaged) ≡ lenOf sets (setOf s)
     len-bad u = len-damaged sets (setOf s) (fit s p q) (scan-bad nothing (setOf s) t u)
 
-  -- get and contains, by what the probing found
+  -- get, by the probing
   module _ (k : List ℕ) {r : Probed} (p : r ≡ probing s k) where
-    seen-by : {x : Probed} → r ≡ x → model.get sets (setOf s) k ≡ seenOf (λ i. tt) x
-    seen-by q = rw (← q, p) (get-probing nothing (setOf s) k refl)
-
-    module _ {x : Probed} (q : r ≡ x) where
-      pub get-says : spannedSaid (offsetAt s) (lengthAt s) (seenOf {W = Unit {0}} (λ i. tt) x) ≡ setGetOf (setOf s) k
-      unfolding setGetOf
-      get-says = rw (seen-by q)
-
-      pub contains-says : containedSaid (seenOf {W = Unit {0}} (λ i. tt) x) ≡ containsOf sets (setOf s) k
-      unfolding containsOf
-      contains-says = rw (seen-by q)
-
     -- a found key's slot has a length
     pub get-inside : {i e : ℕ} → r ≡ probed.Hit i e → i < length (s .lengths)
     get-inside q = let (l, z) = probing-inside nothing (setOf s) k p q in omega (arith, z .lengths)
@@ -56,4 +43,4 @@ module _ (s : Spans) where
     -- a found key's span is what stands in its slot
     pub get-found : {i e o l : ℕ} → r ≡ probed.Hit i e → o ≡ getD (s .offsets) i 0 → l ≡ getD (s .lengths) i 0 → spannedNumbers (spanned.Found o l i e) ≡ setGetOf (setOf s) k
     unfolding spannedNumbers spannedSaid
-    get-found q x y = rw (x, y) (get-says q)
+    get-found q x y = rw (x, y) (set-get-says s k p q)

@@ -6,7 +6,6 @@ use mathlib.Core.Path.{_≡_, refl, sym, _∙_}
 use borrow.Author.Tests.{eqb-true}
 use lib.Dec.{eqb}
 use lib.ListN.{length}
-use Rattle.model.specs.Slots.{total}
 use Rattle.model.specs.Store.{path, live-count, used, damagedSlots}
 use Rattle.model.specs.Calls.{Or, no, ok, need, pass, Seen, found, absent, Spot, occupied, vacant, seenBy, spotBy, get, entry, remove}
 use Rattle.model.proofs.Cases.{by-bool, clash}

@@ -8,6 +8,7 @@ pub mod Tiled
 pub mod Writes
 pub mod Beside
 pub mod Bridge
+pub mod Calls
 pub mod Eights
 pub mod Equal
 pub mod Marks

@@ -30,13 +30,13 @@ module _ (s : Spans) (k : List ℕ) (i : ℕ) {m : ℕ} (p : m ≡ getD (s .mark
   sight-freed e = let x : markAt s i ≡ 2 = omega (arith, mark-other s i p (omega arith)) in rw x
 
   -- any other mark than 0, 1 and 2 is damage
-  pub sight-bad : (m ≡ 1 → ⊥) → (m ≡ 0 → ⊥) → (m ≡ 2 → ⊥) → Bad ≡ sightAt s k i
+  pub sight-bad : (m ≡ 1 → ⊥) → (m ≡ 0 → ⊥) → (m ≡ 2 → ⊥) → Damaged ≡ sightAt s k i
   unfolding sightAt lookOf lookAt
   sight-bad a b c = let l : 2 < markAt s i = omega (arith, mark-other s i p a) in rw (cell-bad (markAt s i) (keyAt s i) (tt {0}) l)
 
   -- a live slot, by its end
   module _ (q : m ≡ 1) {n e : ℕ} (r : n ≡ getD (s .lengths) i 0) (x : e ≡ getD (s .offsets) i 0 + n) where
-    pub sight-past : length (s .arena) < e → Bad ≡ sightAt s k i
+    pub sight-past : length (s .arena) < e → Damaged ≡ sightAt s k i
     unfolding sightAt lookOf lookAt cell
     sight-past l = rw (← mark-past s i p q r (omega arith))
 

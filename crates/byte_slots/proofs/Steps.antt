@@ -8,6 +8,7 @@ use borrow.Author.Tests.{eq-eqb, ne-eqb, eqb-true}
 use lib.ListN.{length, getD}
 use Rattle.model.specs.Machine.{stepping}
 use Rattle.model.proofs.Cases.{both}
+use Rattle.answers.specs.Cases.{NOTHING, WALK-DONE}
 use Rattle.answers.specs.declared.Numbers.{Numbers}
 use Rattle.answers.specs.declared.Refusal.{Refusal}
 use Rattle.answers.specs.declared.Refusal.the-variants.{Sizes}
@@ -51,11 +52,11 @@ module _ {W : Type 0} (C : Column W) (m : ByteMemory C) (at budget : ℕ) {r : A
     unfolding aheadIn
     said-live q = kinds.said-live (byteStore C) m (markAt (m .spans)) (keyAt (m .spans)) (C .read (m .words)) (slots-cells (m .spans) (C .read (m .words))) at budget hand p q
 
-    pub said-nothing : {x : ℕ} → r ≡ Nothing x → walked 0 15 0 0 (x - at) x ≡ stepSaid hand at (stepping (byteStore C) m at budget)
+    pub said-nothing : {x : ℕ} → r ≡ Nothing x → walked 0 NOTHING 0 0 (x - at) x ≡ stepSaid hand at (stepping (byteStore C) m at budget)
     unfolding aheadIn
     said-nothing q = kinds.said-nothing (byteStore C) m (markAt (m .spans)) (keyAt (m .spans)) (C .read (m .words)) (slots-cells (m .spans) (C .read (m .words))) at budget hand p q
 
-    pub said-done : r ≡ Done → walked 0 16 0 0 0 at ≡ stepSaid hand at (stepping (byteStore C) m at budget)
+    pub said-done : r ≡ Done → walked 0 WALK-DONE 0 0 0 at ≡ stepSaid hand at (stepping (byteStore C) m at budget)
     unfolding aheadIn
     said-done q = kinds.said-done (byteStore C) m (markAt (m .spans)) (keyAt (m .spans)) (C .read (m .words)) (slots-cells (m .spans) (C .read (m .words))) at budget hand p q
 

@@ -13,7 +13,7 @@ use Rattle.model.proofs.Cases.{both, by-bool, by-lt, clash}
 use Rattle.model.proofs.Slots.{damaged-bad}
 use Rattle.kinds.specs.Marks.{cell}
 use Rattle.kinds.proofs.Scanning.{cell-bad, cell-sound}
-use Rattle.byte_slots.specs.declared.Surveyed.the-variants.{Used, Bad}
+use Rattle.byte_slots.specs.declared.Surveyed.the-variants.{Used, Damaged}
 use Rattle.byte_slots.specs.Memory.{Spans, endAt, keyAt, bare, usedOf, beyond, fullDamage, fitting}
 use Rattle.byte_slots.specs.Marks.{markAt}
 use Rattle.byte_slots.specs.Surveying.{higherEnd, surveying}
@@ -71,7 +71,7 @@ survey-start s f = record { sized = fitting-says s f; within = omega arith; low 
 module _ {s : Spans} {used top i : ℕ} (w : Surveying s used top i) where
   -- the next slot's mark
   module _ {m : ℕ} (l : i < length (s .marks)) (p : m ≡ getD (s .marks) i 0) where
-    pub survey-bad : 2 < m → (m ≡ 1 → ⊥) → Bad ≡ surveying s
+    pub survey-bad : 2 < m → (m ≡ 1 → ⊥) → Damaged ≡ surveying s
     unfolding surveying fullDamage
     survey-bad h k = rw (damaged-bad (bare s) (length (s .marks)) i l (slot-cell s (λ j. tt {0}) i ∙ cell-bad (markAt s i) (keyAt s i) (tt {0}) (omega (arith, mark-other s i p k))))
 
@@ -125,13 +125,13 @@ module _ {s : Spans} {used top i : ℕ} (w : Surveying s used top i) where
     unfolding fullDamage usedOf
     harm-is h = let (a, b) = w .sound h in rw (all-seen, b, ← a, w .ends used)
 
-    pub survey-over : length (s .arena) < used → Bad ≡ surveying s
+    pub survey-over : length (s .arena) < used → Damaged ≡ surveying s
     unfolding surveying
     survey-over h = by-lt (length (s .arena)) top
         (λ a e. rw (past-harms a))
         (λ a e. rw (harm-is a, lt-ltb (length (s .arena)) used h))
 
-    pub survey-beyond : used ≤ length (s .arena) → used < top → Bad ≡ surveying s
+    pub survey-beyond : used ≤ length (s .arena) → used < top → Damaged ≡ surveying s
     unfolding surveying
     survey-beyond k h = by-lt (length (s .arena)) top
         (λ a e. rw (past-harms a))

@@ -7,6 +7,7 @@ use borrow.Author.Tests.{eqb-true}
 use lib.ListN.{length, getD}
 use Rattle.model.specs.Machine.{stepping}
 use Rattle.model.proofs.Cases.{both}
+use Rattle.answers.specs.Cases.{NOTHING, WALK-DONE}
 use Rattle.answers.specs.declared.Numbers.{Numbers}
 use Rattle.answers.specs.declared.Refusal.{Refusal}
 use Rattle.answers.specs.declared.Refusal.the-variants.{Sizes}
@@ -14,16 +15,17 @@ use Rattle.answers.specs.Refusals.{numberOf}
 use Rattle.answers.specs.Said.{walked, stepSaid}
 use Rattle.kinds.specs.declared.Ahead.{Ahead}
 use Rattle.kinds.specs.declared.Ahead.the-variants.{Live, Nothing, Done, Refused}
+use Rattle.kinds.specs.Calls.{sizedOf}
 use Rattle.kinds.specs.Columns.{Column, values, nothing}
 use Rattle.kinds.specs.Marks.{wordsOf}
 use Rattle.kinds.specs.Stepping.{aheadOf}
+use Rattle.kinds.proofs.Sizing.{sized-as}
 use Rattle.kinds.proofs.Stepping as kinds
 use Rattle.int_slots.specs.Memory.{IntMemory, intStore, memory, fitting}
 use Rattle.int_slots.specs.Sets.{memory as setMemory}
-use Rattle.int_slots.specs.Seeking.{fittingMap}
+use Rattle.int_slots.specs.Maps.{maps}
 use Rattle.int_slots.specs.Steps.{aheadIn, setAhead, mapAhead}
 use Rattle.int_slots.proofs.Bridge.{sized-is}
-use Rattle.int_slots.proofs.MapSizes as MapSizes
 use Rattle.int_slots.proofs.SetSizes as SetSizes
 use Rattle.int_slots.proofs.Sizes.{fitting-says}
 
@@ -47,11 +49,11 @@ module _ {W : Type 0} (C : Column W) (m : IntMemory C) (at budget : ℕ) {r : Ah
     unfolding aheadIn
     said-live q = kinds.said-live (intStore C) m (wordsOf (m .marks)) (wordsOf (m .keys)) (C .read (m .words)) refl at budget hand p q
 
-    pub said-nothing : {x : ℕ} → r ≡ Nothing x → walked 0 15 0 0 (x - at) x ≡ stepSaid hand at (stepping (intStore C) m at budget)
+    pub said-nothing : {x : ℕ} → r ≡ Nothing x → walked 0 NOTHING 0 0 (x - at) x ≡ stepSaid hand at (stepping (intStore C) m at budget)
     unfolding aheadIn
     said-nothing q = kinds.said-nothing (intStore C) m (wordsOf (m .marks)) (wordsOf (m .keys)) (C .read (m .words)) refl at budget hand p q
 
-    pub said-done : r ≡ Done → walked 0 16 0 0 0 at ≡ stepSaid hand at (stepping (intStore C) m at budget)
+    pub said-done : r ≡ Done → walked 0 WALK-DONE 0 0 0 at ≡ stepSaid hand at (stepping (intStore C) m at budget)
     unfolding aheadIn
     said-done q = kinds.said-done (intStore C) m (wordsOf (m .marks)) (wordsOf (m .keys)) (C .read (m .words)) refl at budget hand p q
 
@@ -81,9 +83,9 @@ module _ (marks keys : List ℕ) (at budget : ℕ) where
     pub set-unfit : b ≡ false → Refused Sizes ≡ setAhead marks keys at budget
     set-unfit e = ahead-unsized nothing (setMemory marks keys) at budget (SetSizes.unfit marks keys f e)
 
-  module _ (vs : List ℕ) {b : Bool} (f : b ≡ fittingMap marks keys vs) where
+  module _ (vs : List ℕ) {b : Bool} (f : b ≡ sizedOf maps (memory marks keys vs)) where
     pub map-ahead : {r : Ahead} → b ≡ true → r ≡ aheadOf true (wordsOf marks) (length marks) at budget → r ≡ mapAhead marks keys vs at budget
-    map-ahead e p = ahead-sized values (memory marks keys vs) at budget (MapSizes.fit marks keys vs f e) p
+    map-ahead e p = ahead-sized values (memory marks keys vs) at budget (sized-as maps (memory marks keys vs) f e) p
 
     pub map-unfit : b ≡ false → Refused Sizes ≡ mapAhead marks keys vs at budget
-    map-unfit e = ahead-unsized values (memory marks keys vs) at budget (MapSizes.unfit marks keys vs f e)
+    map-unfit e = ahead-unsized values (memory marks keys vs) at budget (sized-as maps (memory marks keys vs) f e)

@@ -27,6 +27,7 @@ use Rattle.model.proofs.Demand3.{not-between, step-going}
 use Rattle.model.specs.Demand3.{unrefused}
 use Rattle.model.proofs.Exact.{seenFor, spotFor, heldFor, seen-is, spot-is, grip-is, length-is, reserve-is}
 use Rattle.model.proofs.Numbered.{Numbered, numbered-no, numbered-ok, get-numbered, remove-numbered, entry-numbered}
+use Rattle.answers.specs.Cases.{NOTHING, WALK-DONE}
 use Rattle.answers.specs.declared.Numbers.{Numbers}
 use Rattle.kinds.specs.Owed.{refusing, moving, unless, byMap, lastSlot, openSlot, admitting, copying, looking, placing, holding, vacates, opening, lacked, joining, OwesStep, no-budget, beyond, ended, hands, passes}
 
@@ -148,7 +149,7 @@ module _ {K W : Type 0} (M : Store K W) (L : Lawful M) (m : M .State) (f : Finit
 
 module _ {K W : Type 0} (M : Store K W) (L : Lawful M) (m : M .State) (f : Finite K W) (s : Shows M m f) where
   -- a step
-  pub step-owed : (said : Or (StepAnswer K W) → Numbers) (a b : ℕ) (hand : K → W → ℕ → ℕ → ℕ → Numbers) → ((n : ℕ) → said (no n) ≡ refusing n a) → ((j : ℕ) (k : K) (v : W) (e : ℕ) → M .slots m j ≡ live k v → said (ok (pair k v (suc j) e)) ≡ hand k v j (suc j) e) → ((x e : ℕ) → said (ok (nothing x e)) ≡ moving 15 x e) → ((x : ℕ) → said (ok (done x)) ≡ moving 16 x 0) → OwesStep M m f hand a b (said (stepping M m a b))
+  pub step-owed : (said : Or (StepAnswer K W) → Numbers) (a b : ℕ) (hand : K → W → ℕ → ℕ → ℕ → Numbers) → ((n : ℕ) → said (no n) ≡ refusing n a) → ((j : ℕ) (k : K) (v : W) (e : ℕ) → M .slots m j ≡ live k v → said (ok (pair k v (suc j) e)) ≡ hand k v j (suc j) e) → ((x e : ℕ) → said (ok (nothing x e)) ≡ moving NOTHING x e) → ((x : ℕ) → said (ok (done x)) ≡ moving WALK-DONE x 0) → OwesStep M m f hand a b (said (stepping M m a b))
   unfolding stepping need step unrefused
   step-owed said a b hand z p q r = rw (s .soundTable .sized) (by-eq b 0
       (λ e t. no-budget e (rw (step-three t) (z 3)))

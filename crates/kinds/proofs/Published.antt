@@ -29,6 +29,7 @@ use Rattle.model.proofs.Numbered.{Numbered, numbered-no, numbered-ok, told-refu
 use Rattle.model.proofs.Tables.{sure-healthy, sure-looks, sure-counts, booked-shows, booked-sure, booked-stands, sure-paces}
 use Rattle.model.proofs.Demand3.{demand-3}
 use Rattle.model.proofs.Iterated.{walk-iterated}
+use Rattle.answers.specs.Cases.{PAIR}
 use Rattle.answers.specs.declared.Numbers.{Numbers}
 use Rattle.answers.specs.Said.{stepSaid}
 use Rattle.kinds.specs.Told.{told}
@@ -41,7 +42,7 @@ not-not false = refl
 
 module _ {K W : Type 0} where
   -- a step's numbers, heard, are the step: where no refusal is 0, and a pair's numbers tell its key and value
-  pub heard-step : (key : Numbers → K) (val : Numbers → W) (hand : K → W → ℕ → ℕ → Numbers) (a : ℕ) (o : Or (StepAnswer K W)) → Numbered o → ((k : K) (v : W) (x e : ℕ) → o ≡ ok (pair k v x e) → (hand k v x e .refusal ≡ 0) × (hand k v x e .case ≡ 14) × (key (hand k v x e) ≡ k) × (val (hand k v x e) ≡ v) × (hand k v x e .walk ≡ x) × (hand k v x e .examined ≡ e)) → heardAs key val (stepSaid hand a o) ≡ o
+  pub heard-step : (key : Numbers → K) (val : Numbers → W) (hand : K → W → ℕ → ℕ → Numbers) (a : ℕ) (o : Or (StepAnswer K W)) → Numbered o → ((k : K) (v : W) (x e : ℕ) → o ≡ ok (pair k v x e) → (hand k v x e .refusal ≡ 0) × (hand k v x e .case ≡ PAIR) × (key (hand k v x e) ≡ k) × (val (hand k v x e) ≡ v) × (hand k v x e .walk ≡ x) × (hand k v x e .examined ≡ e)) → heardAs key val (stepSaid hand a o) ≡ o
   unfolding heardAs stepSaid
   heard-step key val hand a o (numbered-no n) h = rw (ne-eqb (suc n) 0 (λ e. omega arith))
   heard-step key val hand a o (numbered-ok (pair k v x e)) h = let (p, c, q, r, w, d) = h k v x e refl in rw (q, r, w, d, p, c)

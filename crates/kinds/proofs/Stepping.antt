@@ -12,6 +12,7 @@ use Rattle.model.specs.Machine.{stepping}
 use Rattle.model.specs.Walk.{reachOf, pace, step}
 use Rattle.model.proofs.Cases.{by-bool, clash}
 use Rattle.model.proofs.Walk.{reach-high}
+use Rattle.answers.specs.Cases.{NOTHING, WALK-DONE}
 use Rattle.answers.specs.declared.Numbers.{Numbers}
 use Rattle.answers.specs.declared.Refusal.{Refusal}
 use Rattle.answers.specs.declared.Refusal.the-variants as refusal
@@ -51,11 +52,11 @@ module _ {K W : Type 0} (M : Store K W) (m : M .State) (mark : ℕ → ℕ) (key
     unfolding steppedBy stepSaid
     said-live {j} q = rw (add-one j) (said-ahead q)
 
-    pub said-nothing : {x : ℕ} → r ≡ Nothing x → walked 0 15 0 0 (x - w) x ≡ stepSaid hand w (stepping M m w b)
+    pub said-nothing : {x : ℕ} → r ≡ Nothing x → walked 0 NOTHING 0 0 (x - w) x ≡ stepSaid hand w (stepping M m w b)
     unfolding steppedBy stepSaid
     said-nothing q = said-ahead q
 
-    pub said-done : r ≡ Done → walked 0 16 0 0 0 w ≡ stepSaid hand w (stepping M m w b)
+    pub said-done : r ≡ Done → walked 0 WALK-DONE 0 0 0 w ≡ stepSaid hand w (stepping M m w b)
     unfolding steppedBy stepSaid
     said-done q = said-ahead q
 

@@ -25,6 +25,7 @@ use Rattle.model.proofs.Iterated.{walk-once}
 use Rattle.model.proofs.Numbered.{step-numbered}
 use Rattle.model.specs.Slots.{live}
 use Rattle.model.specs.Walk.{StepAnswer, pair, nothing, done}
+use Rattle.answers.specs.Cases.{DONE, ROOM, FOUND, ABSENT, FRESH, PAIR}
 use Rattle.answers.specs.Said.{doneSaid, countSaid, emptySaid, roomSaid, gotSaid, containedSaid, removedSaid, enteredSaid, storedSaid, heldSaid, swappedSaid, takenSaid, inSlotSaid, stepSaid, spanHanded}
 use Rattle.answers.proofs.Said.{containedSaid-refusal, countSaid-refusal, doneSaid-refusal, emptySaid-refusal, enteredSaid-refusal, gotSaid-refusal, heldSaid-refusal, storedSaid-refusal, removedSaid-refusal, roomSaid-refusal, inSlotSaid-refusal, stepSaid-refusal, swappedSaid-refusal, takenSaid-refusal}
 use Rattle.answers.specs.declared.Numbers.{Numbers}
@@ -119,22 +120,22 @@ maps-linked = record { number = number-told; memory = memory-told; hears = steps
 -- Where the map of a call's table is known, the call tells what it owes.
 owes-told : (s : Book maps) → Right maps published s → (x : ℕ) (c : Call) (f : Finite (List ℕ) ℕ) → s .maps x ≡ some f → Owes s x f c (told-by (s .world) x c .numbers)
 unfolding told-by makeOf capacityOf lenOf isEmptyOf reserveOf getOf containsOf insertOf removeOf copyOf unionOf stepOf entryOf setOf orInsertOf insertEntryOf heldOf takenOf vacantInsertOf Calls.or-insert Calls.insert-entry doneSaid countSaid emptySaid roomSaid gotSaid containedSaid removedSaid enteredSaid storedSaid heldSaid swappedSaid takenSaid inSlotSaid stepSaid slotOf give keeping replacing
-owes-told s h x make f e = capacity-owed maps maps-lawful (s .world x) f (h x f e) doneSaid (only 1) refl
-owes-told s h x clear f e = capacity-owed maps maps-lawful (s .world x) f (h x f e) doneSaid (only 1) refl
+owes-told s h x make f e = capacity-owed maps maps-lawful (s .world x) f (h x f e) doneSaid (only DONE) refl
+owes-told s h x clear f e = capacity-owed maps maps-lawful (s .world x) f (h x f e) doneSaid (only DONE) refl
 owes-told s h x capacity f e = capacity-owed maps maps-lawful (s .world x) f (h x f e) countSaid _ refl
 owes-told s h x len f e = length-owed maps maps-lawful (s .world x) f (h x f e) countSaid _ refl
 owes-told s h x is-empty f e = length-owed maps maps-lawful (s .world x) f (h x f e) emptySaid _ refl
-owes-told s h x (reserve a) f e = reserve-owed maps maps-lawful (s .world x) f (h x f e) roomSaid (only 5) (λ n. refl) refl a
+owes-told s h x (reserve a) f e = reserve-owed maps maps-lawful (s .world x) f (h x f e) roomSaid (only ROOM) (λ n. refl) refl a
 owes-told s h x (get k) f e = get-owed maps maps-lawful (s .world x) f (h x f e) gotSaid _ _ (λ n. refl) (λ v i e. refl) (λ e. refl) k
 owes-told s h x (contains-key k) f e = get-owed maps maps-lawful (s .world x) f (h x f e) containedSaid _ _ (λ n. refl) (λ v i e. refl) (λ e. refl) k
 owes-told s h x (remove k) f e = remove-owed maps maps-lawful (s .world x) f (h x f e) removedSaid _ _ (λ n. refl) (λ v i e. refl) (λ e. refl) k
 owes-told s h x (entry k) f e = entry-owed maps maps-lawful (s .world x) f (h x f e) enteredSaid _ _ (λ n. refl) (λ v i e. refl) (λ i e. refl) k
-owes-told s h x (copy y) f e = copy-owed maps maps-lawful (s .world x) f (h x f e) doneSaid (only 1) (λ n. refl) refl (s .world y)
+owes-told s h x (copy y) f e = copy-owed maps maps-lawful (s .world x) f (h x f e) doneSaid (only DONE) (λ n. refl) refl (s .world y)
 owes-told s h x (union-prefer-right y) f e = (
-  union-owed maps maps-lawful (s .world x) f (h x f e) doneSaid (only 1) (λ n. refl) refl (s .world y),
-  (λ g t. union-known-owed maps maps-lawful (s .world x) f (h x f e) doneSaid (only 1) (λ n. refl) refl (s .world y) g (h y g t)),
+  union-owed maps maps-lawful (s .world x) f (h x f e) doneSaid (only DONE) (λ n. refl) refl (s .world y),
+  (λ g t. union-known-owed maps maps-lawful (s .world x) f (h x f e) doneSaid (only DONE) (λ n. refl) refl (s .world y) g (h y g t)),
 )
-owes-told s h x (insert k v) f e = entry-owed maps maps-lawful (s .world x) f (h x f e) (storedSaid (usedOf (s .world x .spans))) _ _ (λ n. refl) (λ v i e. refl) (λ i d. ap (λ u. spanning 9 i d u 0) (used-told values values-lawful (s .world x) f (h x f e))) k
+owes-told s h x (insert k v) f e = entry-owed maps maps-lawful (s .world x) f (h x f e) (storedSaid (usedOf (s .world x .spans))) _ _ (λ n. refl) (λ v i e. refl) (λ i d. ap (λ u. spanning FRESH i d u 0) (used-told values values-lawful (s .world x) f (h x f e))) k
 owes-told s h x (occupied-get i k) f e = held-owed maps maps-lawful (s .world x) f (h x f e) (heldSaid i) _ (λ n. refl) (λ v. refl) i k
 owes-told s h x (occupied-remove i k) f e = taken-owed maps maps-lawful (s .world x) f (h x f e) takenSaid _ (λ n. refl) (λ v. refl) i k
 owes-told s h x (occupied-remove-entry i k) f e = taken-owed maps maps-lawful (s .world x) f (h x f e) takenSaid _ (λ n. refl) (λ v. refl) i k
@@ -247,13 +248,13 @@ demand-2-examined w x (or-insert h a v) k q e = clash cc
 demand-2-examined w x (insert-entry h a v) k q e = clash cc
 
 -- On any memory, where a call tells where a key stands, that part of the arena after it is the key.
-stored-bytes : (m : ByteMemory values) (k : List ℕ) (v : ℕ) (o : Or (Spot ℕ)) → Calls.entry maps m k ≡ o → storedSaid (usedOf (m .spans)) o .case ≡ 9 → part (after-insert maps m k v .spans .arena) (storedSaid (usedOf (m .spans)) o .offset) (length k) ≡ k
+stored-bytes : (m : ByteMemory values) (k : List ℕ) (v : ℕ) (o : Or (Spot ℕ)) → Calls.entry maps m k ≡ o → storedSaid (usedOf (m .spans)) o .case ≡ FRESH → part (after-insert maps m k v .spans .arena) (storedSaid (usedOf (m .spans)) o .offset) (length k) ≡ k
 unfolding storedSaid
 stored-bytes m k v (no n) e q = absurd (omega arith)
 stored-bytes m k v (ok (occupied i u d)) e q = absurd (omega arith)
 stored-bytes m k v (ok (vacant i d)) e q = fresh-bytes values m k v i d e
 
-handed-bytes : (m : ByteMemory values) (a b : ℕ) (o : Or (StepAnswer (List ℕ) ℕ)) → stepping maps m a b ≡ o → stepSaid (spanHanded (offsetAt (m .spans)) (lengthAt (m .spans))) a o .case ≡ 14 → maps .slots m (stepSaid (spanHanded (offsetAt (m .spans)) (lengthAt (m .spans))) a o .walk - 1) ≡ live (part (m .spans .arena) (stepSaid (spanHanded (offsetAt (m .spans)) (lengthAt (m .spans))) a o .offset) (stepSaid (spanHanded (offsetAt (m .spans)) (lengthAt (m .spans))) a o .length)) (stepSaid (spanHanded (offsetAt (m .spans)) (lengthAt (m .spans))) a o .value)
+handed-bytes : (m : ByteMemory values) (a b : ℕ) (o : Or (StepAnswer (List ℕ) ℕ)) → stepping maps m a b ≡ o → stepSaid (spanHanded (offsetAt (m .spans)) (lengthAt (m .spans))) a o .case ≡ PAIR → maps .slots m (stepSaid (spanHanded (offsetAt (m .spans)) (lengthAt (m .spans))) a o .walk - 1) ≡ live (part (m .spans .arena) (stepSaid (spanHanded (offsetAt (m .spans)) (lengthAt (m .spans))) a o .offset) (stepSaid (spanHanded (offsetAt (m .spans)) (lengthAt (m .spans))) a o .length)) (stepSaid (spanHanded (offsetAt (m .spans)) (lengthAt (m .spans))) a o .value)
 unfolding stepSaid
 handed-bytes m a b (no n) e q = absurd (omega arith)
 handed-bytes m a b (ok (pair k v y d)) e q = let (p, r) = handed-slot values m a b k v y d e in p ∙ ap (λ c. live c v) (sym r)
@@ -284,19 +285,19 @@ pub demand-3-once : (cs : List (ℕ × Call)) (w : World maps) (x : ℕ) → isS
 demand-3-once cs w x q k bs h e = walk-once (walkOf maps published cs w x) (afterCalls maps published cs w) (demand-3 cs w x q) k bs h e
 
 -- What demand 2 comes to, by told numbers alone: on a known table a key of allowed length that was inserted is found with its value, one that was removed is absent.
-pub told-after-insert : (s : Book maps) → Right maps published s → (x : ℕ) (f : Finite (List ℕ) ℕ) → s .maps x ≡ some f → (k : List ℕ) (v : ℕ) → askedOf k ≡ 0 → told-by (s .world) x (insert k v) .numbers .refusal ≡ 0 → (told-by (noted maps published s x (insert k v) .world) x (get k) .numbers .case ≡ 6) × (told-by (noted maps published s x (insert k v) .world) x (get k) .numbers .value ≡ v)
+pub told-after-insert : (s : Book maps) → Right maps published s → (x : ℕ) (f : Finite (List ℕ) ℕ) → s .maps x ≡ some f → (k : List ℕ) (v : ℕ) → askedOf k ≡ 0 → told-by (s .world) x (insert k v) .numbers .refusal ≡ 0 → (told-by (noted maps published s x (insert k v) .world) x (get k) .numbers .case ≡ FOUND) × (told-by (noted maps published s x (insert k v) .world) x (get k) .numbers .value ≡ v)
 unfolding meant mapMeant
 told-after-insert s h x f e k v b r =
     let g = noted maps published s x (insert k v) in
     let run = told-in-step maps published maps-linked maps-lawful owed (λ s h x c f e. (owes-told s h x c f e, demand-2-spans (s .world) x c)) ((x, (insert k v)) ∷ (x, get k) ∷ []) s h in
     let o = told-owed maps published maps-linked owed x (get k) [] g (told-rest maps published maps-linked owed x (insert k v) ((x, get k) ∷ []) s run) _ (inserted-known maps published maps-linked s x (insert k v) k v f refl e r) in
-    let q = o .0 ∙ looked-inserted maps (g .world x) f k (λ v i e. lookingUp 6 v i e) (λ e. lookingUp 8 0 0 e) v b in
+    let q = o .0 ∙ looked-inserted maps (g .world x) f k (λ v i e. lookingUp FOUND v i e) (λ e. lookingUp ABSENT 0 0 e) v b in
     (ap (λ n. n .case) q, ap (λ n. n .value) q)
 
-pub told-after-remove : (s : Book maps) → Right maps published s → (x : ℕ) (f : Finite (List ℕ) ℕ) → s .maps x ≡ some f → (k : List ℕ) → askedOf k ≡ 0 → told-by (s .world) x (remove k) .numbers .refusal ≡ 0 → told-by (noted maps published s x (remove k) .world) x (get k) .numbers .case ≡ 8
+pub told-after-remove : (s : Book maps) → Right maps published s → (x : ℕ) (f : Finite (List ℕ) ℕ) → s .maps x ≡ some f → (k : List ℕ) → askedOf k ≡ 0 → told-by (s .world) x (remove k) .numbers .refusal ≡ 0 → told-by (noted maps published s x (remove k) .world) x (get k) .numbers .case ≡ ABSENT
 unfolding meant mapMeant
 told-after-remove s h x f e k b r =
     let g = noted maps published s x (remove k) in
     let run = told-in-step maps published maps-linked maps-lawful owed (λ s h x c f e. (owes-told s h x c f e, demand-2-spans (s .world) x c)) ((x, remove k) ∷ (x, get k) ∷ []) s h in
     let o = told-owed maps published maps-linked owed x (get k) [] g (told-rest maps published maps-linked owed x (remove k) ((x, get k) ∷ []) s run) _ (removed-known maps published maps-linked s x (remove k) k f refl e r) in
-    ap (λ n. n .case) (o .0 ∙ looked-removed maps (g .world x) f k (λ v i e. lookingUp 6 v i e) (λ e. lookingUp 8 0 0 e) b)
+    ap (λ n. n .case) (o .0 ∙ looked-removed maps (g .world x) f k (λ v i e. lookingUp FOUND v i e) (λ e. lookingUp ABSENT 0 0 e) b)

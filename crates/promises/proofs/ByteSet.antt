@@ -25,6 +25,7 @@ use Rattle.model.proofs.Numbered.{step-numbered}
 use Rattle.model.specs.Slots.{live}
 use Rattle.model.specs.Calls
 use Rattle.model.specs.Walk.{StepAnswer, pair, nothing as none-live, done}
+use Rattle.answers.specs.Cases.{DONE, ROOM, FOUND, PRESENT, ABSENT, FRESH, PAIR}
 use Rattle.answers.specs.Said.{doneSaid, countSaid, emptySaid, roomSaid, containedSaid, droppedSaid, spannedSaid, joinedSaid, stepSaid, spanOnlyHanded}
 use Rattle.answers.proofs.Said.{containedSaid-refusal, countSaid-refusal, doneSaid-refusal, droppedSaid-refusal, joinedSaid-refusal, emptySaid-refusal, spannedSaid-refusal, roomSaid-refusal, stepSaid-refusal}
 use Rattle.answers.specs.declared.Numbers.{Numbers}
@@ -100,16 +101,16 @@ sets-linked = record { number = number-told; memory = memory-told; hears = steps
 -- Where the set of a call's table is known, the call tells what it owes.
 owes-told : (s : Book sets) → Right sets published s → (x : ℕ) (c : Call) (f : Finite (List ℕ) (Unit {0})) → s .maps x ≡ some f → Owes s x f c (told-by (s .world) x c .numbers)
 unfolding told-by makeOf capacityOf lenOf isEmptyOf reserveOf containsOf droppedOf copyOf setInsertOf setGetOf setStepOf doneSaid countSaid emptySaid roomSaid containedSaid droppedSaid spannedSaid joinedSaid stepSaid
-owes-told s h x make f e = capacity-owed sets sets-lawful (s .world x) f (h x f e) doneSaid (only 1) refl
-owes-told s h x clear f e = capacity-owed sets sets-lawful (s .world x) f (h x f e) doneSaid (only 1) refl
+owes-told s h x make f e = capacity-owed sets sets-lawful (s .world x) f (h x f e) doneSaid (only DONE) refl
+owes-told s h x clear f e = capacity-owed sets sets-lawful (s .world x) f (h x f e) doneSaid (only DONE) refl
 owes-told s h x capacity f e = capacity-owed sets sets-lawful (s .world x) f (h x f e) countSaid _ refl
 owes-told s h x len f e = length-owed sets sets-lawful (s .world x) f (h x f e) countSaid _ refl
 owes-told s h x is-empty f e = length-owed sets sets-lawful (s .world x) f (h x f e) emptySaid _ refl
-owes-told s h x (reserve a) f e = reserve-owed sets sets-lawful (s .world x) f (h x f e) roomSaid (only 5) (λ n. refl) refl a
-owes-told s h x (copy y) f e = copy-owed sets sets-lawful (s .world x) f (h x f e) doneSaid (only 1) (λ n. refl) refl (s .world y)
+owes-told s h x (reserve a) f e = reserve-owed sets sets-lawful (s .world x) f (h x f e) roomSaid (only ROOM) (λ n. refl) refl a
+owes-told s h x (copy y) f e = copy-owed sets sets-lawful (s .world x) f (h x f e) doneSaid (only DONE) (λ n. refl) refl (s .world y)
 owes-told s h x (get k) f e = get-owed sets sets-lawful (s .world x) f (h x f e) (spannedSaid (offsetAt ((s .world x) .spans)) (lengthAt ((s .world x) .spans))) _ _ (λ n. refl) (λ v i e. refl) (λ e. refl) k
 owes-told s h x (contains k) f e = get-owed sets sets-lawful (s .world x) f (h x f e) containedSaid _ _ (λ n. refl) (λ v i e. refl) (λ e. refl) k
-owes-told s h x (insert k) f e = entry-owed sets sets-lawful (s .world x) f (h x f e) (joinedSaid (usedOf (s .world x .spans))) _ _ (λ n. refl) (λ v i e. refl) (λ i d. ap (λ u. spanning 9 i d u 0) (used-told nothing nothing-lawful (s .world x) f (h x f e))) k
+owes-told s h x (insert k) f e = entry-owed sets sets-lawful (s .world x) f (h x f e) (joinedSaid (usedOf (s .world x .spans))) _ _ (λ n. refl) (λ v i e. refl) (λ i d. ap (λ u. spanning FRESH i d u 0) (used-told nothing nothing-lawful (s .world x) f (h x f e))) k
 owes-told s h x (remove k) f e = remove-owed sets sets-lawful (s .world x) f (h x f e) droppedSaid _ _ (λ n. refl) (λ v i e. refl) (λ e. refl) k
 owes-told s h x (step a b) f e = step-owed sets sets-lawful (s .world x) f (h x f e) (stepSaid (spanOnlyHanded (offsetAt ((s .world x) .spans)) (lengthAt ((s .world x) .spans))) a) a b (keyTold (s .world x)) (λ n. refl) (λ j k v e q. let z : suc j - 1 ≡ j = omega arith in rw z) (λ y e. refl) (λ y. refl)
 
@@ -181,19 +182,19 @@ demand-2-examined w x (remove a) k q e = remove-counted sets (w x) a droppedSaid
 demand-2-examined w x (step a b) k q e = clash cc
 
 -- On any memory, where a call tells where a key stands, that part of the arena after it is the key.
-spanned-bytes : (m : ByteMemory nothing) (k : List ℕ) (o : Or (Seen (Unit {0}))) → Calls.get sets m k ≡ o → spannedSaid (offsetAt (m .spans)) (lengthAt (m .spans)) o .case ≡ 6 → part (m .spans .arena) (spannedSaid (offsetAt (m .spans)) (lengthAt (m .spans)) o .offset) (spannedSaid (offsetAt (m .spans)) (lengthAt (m .spans)) o .length) ≡ k
+spanned-bytes : (m : ByteMemory nothing) (k : List ℕ) (o : Or (Seen (Unit {0}))) → Calls.get sets m k ≡ o → spannedSaid (offsetAt (m .spans)) (lengthAt (m .spans)) o .case ≡ FOUND → part (m .spans .arena) (spannedSaid (offsetAt (m .spans)) (lengthAt (m .spans)) o .offset) (spannedSaid (offsetAt (m .spans)) (lengthAt (m .spans)) o .length) ≡ k
 unfolding spannedSaid
 spanned-bytes m k (no n) e q = absurd (omega arith)
 spanned-bytes m k (ok (found v i d)) e q = found-bytes nothing m k v i d e
 spanned-bytes m k (ok (absent d)) e q = absurd (omega arith)
 
-joined-bytes : (m : ByteMemory nothing) (k : List ℕ) (o : Or (Spot (Unit {0}))) → Calls.entry sets m k ≡ o → joinedSaid (usedOf (m .spans)) o .case ≡ 9 → part (after-insert sets m k tt .spans .arena) (joinedSaid (usedOf (m .spans)) o .offset) (length k) ≡ k
+joined-bytes : (m : ByteMemory nothing) (k : List ℕ) (o : Or (Spot (Unit {0}))) → Calls.entry sets m k ≡ o → joinedSaid (usedOf (m .spans)) o .case ≡ FRESH → part (after-insert sets m k tt .spans .arena) (joinedSaid (usedOf (m .spans)) o .offset) (length k) ≡ k
 unfolding joinedSaid
 joined-bytes m k (no n) e q = absurd (omega arith)
 joined-bytes m k (ok (occupied i u d)) e q = absurd (omega arith)
 joined-bytes m k (ok (vacant i d)) e q = fresh-bytes nothing m k tt i d e
 
-handed-bytes : (m : ByteMemory nothing) (a b : ℕ) (o : Or (StepAnswer (List ℕ) (Unit {0}))) → stepping sets m a b ≡ o → stepSaid (spanOnlyHanded (offsetAt (m .spans)) (lengthAt (m .spans))) a o .case ≡ 14 → sets .slots m (stepSaid (spanOnlyHanded (offsetAt (m .spans)) (lengthAt (m .spans))) a o .walk - 1) ≡ live (part (m .spans .arena) (stepSaid (spanOnlyHanded (offsetAt (m .spans)) (lengthAt (m .spans))) a o .offset) (stepSaid (spanOnlyHanded (offsetAt (m .spans)) (lengthAt (m .spans))) a o .length)) tt
+handed-bytes : (m : ByteMemory nothing) (a b : ℕ) (o : Or (StepAnswer (List ℕ) (Unit {0}))) → stepping sets m a b ≡ o → stepSaid (spanOnlyHanded (offsetAt (m .spans)) (lengthAt (m .spans))) a o .case ≡ PAIR → sets .slots m (stepSaid (spanOnlyHanded (offsetAt (m .spans)) (lengthAt (m .spans))) a o .walk - 1) ≡ live (part (m .spans .arena) (stepSaid (spanOnlyHanded (offsetAt (m .spans)) (lengthAt (m .spans))) a o .offset) (stepSaid (spanOnlyHanded (offsetAt (m .spans)) (lengthAt (m .spans))) a o .length)) tt
 unfolding stepSaid
 handed-bytes m a b (no n) e q = absurd (omega arith)
 handed-bytes m a b (ok (pair k v y d)) e q = let (p, r) = handed-slot nothing m a b k v y d e in p ∙ ap (λ c. live c v) (sym r)
@@ -225,19 +226,19 @@ pub demand-3-once : (cs : List (ℕ × Call)) (w : World sets) (x : ℕ) → isS
 demand-3-once cs w x q k bs h e = walk-once (walkOf sets published cs w x) (afterCalls sets published cs w) (demand-3 cs w x q) k bs h e
 
 -- What demand 2 comes to, by told numbers alone: on a known table a key of allowed length that was inserted is there, one that was removed is absent.
-pub told-after-insert : (s : Book sets) → Right sets published s → (x : ℕ) (f : Finite (List ℕ) (Unit {0})) → s .maps x ≡ some f → (k : List ℕ) → askedOf k ≡ 0 → told-by (s .world) x (insert k) .numbers .refusal ≡ 0 → (told-by (noted sets published s x (insert k) .world) x (contains k) .numbers .case ≡ 7)
+pub told-after-insert : (s : Book sets) → Right sets published s → (x : ℕ) (f : Finite (List ℕ) (Unit {0})) → s .maps x ≡ some f → (k : List ℕ) → askedOf k ≡ 0 → told-by (s .world) x (insert k) .numbers .refusal ≡ 0 → (told-by (noted sets published s x (insert k) .world) x (contains k) .numbers .case ≡ PRESENT)
 unfolding meant setMeant
 told-after-insert s h x f e k b r =
     let g = noted sets published s x (insert k) in
     let run = told-in-step sets published sets-linked sets-lawful owed (λ s h x c f e. (owes-told s h x c f e, demand-2-spans (s .world) x c)) ((x, (insert k)) ∷ (x, contains k) ∷ []) s h in
     let o = told-owed sets published sets-linked owed x (contains k) [] g (told-rest sets published sets-linked owed x (insert k) ((x, contains k) ∷ []) s run) _ (inserted-known sets published sets-linked s x (insert k) k tt f refl e r) in
-    let q = o .0 ∙ looked-inserted sets (g .world x) f k (λ v i e. lookingUp 7 0 0 e) (λ e. lookingUp 8 0 0 e) tt b in
+    let q = o .0 ∙ looked-inserted sets (g .world x) f k (λ v i e. lookingUp PRESENT 0 0 e) (λ e. lookingUp ABSENT 0 0 e) tt b in
     ap (λ n. n .case) q
 
-pub told-after-remove : (s : Book sets) → Right sets published s → (x : ℕ) (f : Finite (List ℕ) (Unit {0})) → s .maps x ≡ some f → (k : List ℕ) → askedOf k ≡ 0 → told-by (s .world) x (remove k) .numbers .refusal ≡ 0 → told-by (noted sets published s x (remove k) .world) x (contains k) .numbers .case ≡ 8
+pub told-after-remove : (s : Book sets) → Right sets published s → (x : ℕ) (f : Finite (List ℕ) (Unit {0})) → s .maps x ≡ some f → (k : List ℕ) → askedOf k ≡ 0 → told-by (s .world) x (remove k) .numbers .refusal ≡ 0 → told-by (noted sets published s x (remove k) .world) x (contains k) .numbers .case ≡ ABSENT
 unfolding meant setMeant
 told-after-remove s h x f e k b r =
     let g = noted sets published s x (remove k) in
     let run = told-in-step sets published sets-linked sets-lawful owed (λ s h x c f e. (owes-told s h x c f e, demand-2-spans (s .world) x c)) ((x, remove k) ∷ (x, contains k) ∷ []) s h in
     let o = told-owed sets published sets-linked owed x (contains k) [] g (told-rest sets published sets-linked owed x (remove k) ((x, contains k) ∷ []) s run) _ (removed-known sets published sets-linked s x (remove k) k f refl e r) in
-    ap (λ n. n .case) (o .0 ∙ looked-removed sets (g .world x) f k (λ v i e. lookingUp 7 0 0 e) (λ e. lookingUp 8 0 0 e) b)
+    ap (λ n. n .case) (o .0 ∙ looked-removed sets (g .world x) f k (λ v i e. lookingUp PRESENT 0 0 e) (λ e. lookingUp ABSENT 0 0 e) b)

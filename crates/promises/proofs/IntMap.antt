@@ -23,6 +23,7 @@ use Rattle.model.specs.Places.{names}
 use Rattle.model.proofs.Cases.{clash}
 use Rattle.model.proofs.Iterated.{walk-once}
 use Rattle.model.proofs.Numbered.{step-numbered}
+use Rattle.answers.specs.Cases.{DONE, ROOM, FOUND, ABSENT}
 use Rattle.answers.specs.Said.{doneSaid, countSaid, emptySaid, roomSaid, gotSaid, containedSaid, removedSaid, enteredSaid, insertedSaid, heldSaid, swappedSaid, takenSaid, takenEntrySaid, inSlotSaid, stepSaid, pairHanded}
 use Rattle.answers.proofs.Said.{containedSaid-refusal, countSaid-refusal, doneSaid-refusal, emptySaid-refusal, enteredSaid-refusal, gotSaid-refusal, heldSaid-refusal, insertedSaid-refusal, removedSaid-refusal, roomSaid-refusal, inSlotSaid-refusal, stepSaid-refusal, swappedSaid-refusal, takenEntrySaid-refusal, takenSaid-refusal}
 use Rattle.answers.specs.declared.Numbers.{Numbers}
@@ -116,20 +117,20 @@ maps-linked = record { number = number-told; memory = memory-told; hears = steps
 -- Where the map of a call's table is known, the call tells what it owes.
 owes-told : (s : Book maps) → Right maps published s → (x : ℕ) (c : Call) (f : Finite ℕ ℕ) → s .maps x ≡ some f → Owes s x f c (told-by (s .world) x c .numbers)
 unfolding told-by makeOf capacityOf lenOf isEmptyOf reserveOf getOf containsOf insertOf removeOf copyOf unionOf stepOf entryOf setOf removeEntryOf orInsertOf insertEntryOf heldOf takenOf vacantInsertOf Calls.or-insert Calls.insert-entry doneSaid countSaid emptySaid roomSaid gotSaid containedSaid removedSaid enteredSaid insertedSaid heldSaid swappedSaid takenSaid takenEntrySaid inSlotSaid stepSaid slotOf give keeping replacing
-owes-told s h x make f e = capacity-owed maps maps-lawful (s .world x) f (h x f e) doneSaid (only 1) refl
-owes-told s h x clear f e = capacity-owed maps maps-lawful (s .world x) f (h x f e) doneSaid (only 1) refl
+owes-told s h x make f e = capacity-owed maps maps-lawful (s .world x) f (h x f e) doneSaid (only DONE) refl
+owes-told s h x clear f e = capacity-owed maps maps-lawful (s .world x) f (h x f e) doneSaid (only DONE) refl
 owes-told s h x capacity f e = capacity-owed maps maps-lawful (s .world x) f (h x f e) countSaid _ refl
 owes-told s h x len f e = length-owed maps maps-lawful (s .world x) f (h x f e) countSaid _ refl
 owes-told s h x is-empty f e = length-owed maps maps-lawful (s .world x) f (h x f e) emptySaid _ refl
-owes-told s h x (reserve a) f e = reserve-owed maps maps-lawful (s .world x) f (h x f e) roomSaid (only 5) (λ n. refl) refl a
+owes-told s h x (reserve a) f e = reserve-owed maps maps-lawful (s .world x) f (h x f e) roomSaid (only ROOM) (λ n. refl) refl a
 owes-told s h x (get k) f e = get-owed maps maps-lawful (s .world x) f (h x f e) gotSaid _ _ (λ n. refl) (λ v i e. refl) (λ e. refl) k
 owes-told s h x (contains-key k) f e = get-owed maps maps-lawful (s .world x) f (h x f e) containedSaid _ _ (λ n. refl) (λ v i e. refl) (λ e. refl) k
 owes-told s h x (remove k) f e = remove-owed maps maps-lawful (s .world x) f (h x f e) removedSaid _ _ (λ n. refl) (λ v i e. refl) (λ e. refl) k
 owes-told s h x (entry k) f e = entry-owed maps maps-lawful (s .world x) f (h x f e) enteredSaid _ _ (λ n. refl) (λ v i e. refl) (λ i e. refl) k
-owes-told s h x (copy y) f e = copy-owed maps maps-lawful (s .world x) f (h x f e) doneSaid (only 1) (λ n. refl) refl (s .world y)
+owes-told s h x (copy y) f e = copy-owed maps maps-lawful (s .world x) f (h x f e) doneSaid (only DONE) (λ n. refl) refl (s .world y)
 owes-told s h x (union-prefer-right y) f e = (
-  union-owed maps maps-lawful (s .world x) f (h x f e) doneSaid (only 1) (λ n. refl) refl (s .world y),
-  (λ g t. union-known-owed maps maps-lawful (s .world x) f (h x f e) doneSaid (only 1) (λ n. refl) refl (s .world y) g (h y g t)),
+  union-owed maps maps-lawful (s .world x) f (h x f e) doneSaid (only DONE) (λ n. refl) refl (s .world y),
+  (λ g t. union-known-owed maps maps-lawful (s .world x) f (h x f e) doneSaid (only DONE) (λ n. refl) refl (s .world y) g (h y g t)),
 )
 owes-told s h x (insert k v) f e = entry-owed maps maps-lawful (s .world x) f (h x f e) insertedSaid _ _ (λ n. refl) (λ v i e. refl) (λ i e. refl) k
 owes-told s h x (occupied-get i k) f e = held-owed maps maps-lawful (s .world x) f (h x f e) (heldSaid i) _ (λ n. refl) (λ v. refl) i k
@@ -260,19 +261,19 @@ pub demand-3-once : (cs : List (ℕ × Call)) (w : World maps) (x : ℕ) → isS
 demand-3-once cs w x q k bs h e = walk-once (walkOf maps published cs w x) (afterCalls maps published cs w) (demand-3 cs w x q) k bs h e
 
 -- What demand 2 comes to, by told numbers alone: on a known table a key that was inserted is found with its value, one that was removed is absent.
-pub told-after-insert : (s : Book maps) → Right maps published s → (x : ℕ) (f : Finite ℕ ℕ) → s .maps x ≡ some f → (k : ℕ) (v : ℕ) → told-by (s .world) x (insert k v) .numbers .refusal ≡ 0 → (told-by (noted maps published s x (insert k v) .world) x (get k) .numbers .case ≡ 6) × (told-by (noted maps published s x (insert k v) .world) x (get k) .numbers .value ≡ v)
+pub told-after-insert : (s : Book maps) → Right maps published s → (x : ℕ) (f : Finite ℕ ℕ) → s .maps x ≡ some f → (k : ℕ) (v : ℕ) → told-by (s .world) x (insert k v) .numbers .refusal ≡ 0 → (told-by (noted maps published s x (insert k v) .world) x (get k) .numbers .case ≡ FOUND) × (told-by (noted maps published s x (insert k v) .world) x (get k) .numbers .value ≡ v)
 unfolding meant mapMeant
 told-after-insert s h x f e k v r =
     let g = noted maps published s x (insert k v) in
     let run = told-in-step maps published maps-linked maps-lawful owed owes-told ((x, (insert k v)) ∷ (x, get k) ∷ []) s h in
     let o = told-owed maps published maps-linked owed x (get k) [] g (told-rest maps published maps-linked owed x (insert k v) ((x, get k) ∷ []) s run) _ (inserted-known maps published maps-linked s x (insert k v) k v f refl e r) in
-    let q = o ∙ looked-inserted maps (g .world x) f k (λ v i e. lookingUp 6 v i e) (λ e. lookingUp 8 0 0 e) v refl in
+    let q = o ∙ looked-inserted maps (g .world x) f k (λ v i e. lookingUp FOUND v i e) (λ e. lookingUp ABSENT 0 0 e) v refl in
     (ap (λ n. n .case) q, ap (λ n. n .value) q)
 
-pub told-after-remove : (s : Book maps) → Right maps published s → (x : ℕ) (f : Finite ℕ ℕ) → s .maps x ≡ some f → (k : ℕ) → told-by (s .world) x (remove k) .numbers .refusal ≡ 0 → told-by (noted maps published s x (remove k) .world) x (get k) .numbers .case ≡ 8
+pub told-after-remove : (s : Book maps) → Right maps published s → (x : ℕ) (f : Finite ℕ ℕ) → s .maps x ≡ some f → (k : ℕ) → told-by (s .world) x (remove k) .numbers .refusal ≡ 0 → told-by (noted maps published s x (remove k) .world) x (get k) .numbers .case ≡ ABSENT
 unfolding meant mapMeant
 told-after-remove s h x f e k r =
     let g = noted maps published s x (remove k) in
     let run = told-in-step maps published maps-linked maps-lawful owed owes-told ((x, remove k) ∷ (x, get k) ∷ []) s h in
     let o = told-owed maps published maps-linked owed x (get k) [] g (told-rest maps published maps-linked owed x (remove k) ((x, get k) ∷ []) s run) _ (removed-known maps published maps-linked s x (remove k) k f refl e r) in
-    ap (λ n. n .case) (o ∙ looked-removed maps (g .world x) f k (λ v i e. lookingUp 6 v i e) (λ e. lookingUp 8 0 0 e) refl)
+    ap (λ n. n .case) (o ∙ looked-removed maps (g .world x) f k (λ v i e. lookingUp FOUND v i e) (λ e. lookingUp ABSENT 0 0 e) refl)

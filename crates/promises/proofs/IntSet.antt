@@ -23,6 +23,7 @@ use Rattle.model.specs.Places.{names}
 use Rattle.model.proofs.Cases.{clash}
 use Rattle.model.proofs.Iterated.{walk-once}
 use Rattle.model.proofs.Numbered.{step-numbered}
+use Rattle.answers.specs.Cases.{DONE, ROOM, PRESENT, ABSENT}
 use Rattle.answers.specs.Said.{doneSaid, countSaid, emptySaid, roomSaid, containedSaid, droppedSaid, memberSaid, addedSaid, stepSaid, keyHanded}
 use Rattle.answers.proofs.Said.{addedSaid-refusal, containedSaid-refusal, countSaid-refusal, doneSaid-refusal, droppedSaid-refusal, emptySaid-refusal, memberSaid-refusal, roomSaid-refusal, stepSaid-refusal}
 use Rattle.answers.specs.declared.Numbers.{Numbers}
@@ -97,13 +98,13 @@ sets-linked = record { number = number-told; memory = memory-told; hears = steps
 -- Where the set of a call's table is known, the call tells what it owes.
 owes-told : (s : Book sets) → Right sets published s → (x : ℕ) (c : Call) (f : Finite ℕ (Unit {0})) → s .maps x ≡ some f → Owes s x f c (told-by (s .world) x c .numbers)
 unfolding told-by makeOf capacityOf lenOf isEmptyOf reserveOf containsOf droppedOf copyOf setInsertOf setGetOf setStepOf doneSaid countSaid emptySaid roomSaid containedSaid droppedSaid memberSaid addedSaid stepSaid
-owes-told s h x make f e = capacity-owed sets sets-lawful (s .world x) f (h x f e) doneSaid (only 1) refl
-owes-told s h x clear f e = capacity-owed sets sets-lawful (s .world x) f (h x f e) doneSaid (only 1) refl
+owes-told s h x make f e = capacity-owed sets sets-lawful (s .world x) f (h x f e) doneSaid (only DONE) refl
+owes-told s h x clear f e = capacity-owed sets sets-lawful (s .world x) f (h x f e) doneSaid (only DONE) refl
 owes-told s h x capacity f e = capacity-owed sets sets-lawful (s .world x) f (h x f e) countSaid _ refl
 owes-told s h x len f e = length-owed sets sets-lawful (s .world x) f (h x f e) countSaid _ refl
 owes-told s h x is-empty f e = length-owed sets sets-lawful (s .world x) f (h x f e) emptySaid _ refl
-owes-told s h x (reserve a) f e = reserve-owed sets sets-lawful (s .world x) f (h x f e) roomSaid (only 5) (λ n. refl) refl a
-owes-told s h x (copy y) f e = copy-owed sets sets-lawful (s .world x) f (h x f e) doneSaid (only 1) (λ n. refl) refl (s .world y)
+owes-told s h x (reserve a) f e = reserve-owed sets sets-lawful (s .world x) f (h x f e) roomSaid (only ROOM) (λ n. refl) refl a
+owes-told s h x (copy y) f e = copy-owed sets sets-lawful (s .world x) f (h x f e) doneSaid (only DONE) (λ n. refl) refl (s .world y)
 owes-told s h x (get k) f e = get-owed sets sets-lawful (s .world x) f (h x f e) (memberSaid k) _ _ (λ n. refl) (λ v i e. refl) (λ e. refl) k
 owes-told s h x (contains k) f e = get-owed sets sets-lawful (s .world x) f (h x f e) containedSaid _ _ (λ n. refl) (λ v i e. refl) (λ e. refl) k
 owes-told s h x (insert k) f e = entry-owed sets sets-lawful (s .world x) f (h x f e) addedSaid _ _ (λ n. refl) (λ v i e. refl) (λ i e. refl) k
@@ -194,19 +195,19 @@ pub demand-3-once : (cs : List (ℕ × Call)) (w : World sets) (x : ℕ) → isS
 demand-3-once cs w x q k bs h e = walk-once (walkOf sets published cs w x) (afterCalls sets published cs w) (demand-3 cs w x q) k bs h e
 
 -- What demand 2 comes to, by told numbers alone: on a known table a key that was inserted is there, one that was removed is absent.
-pub told-after-insert : (s : Book sets) → Right sets published s → (x : ℕ) (f : Finite ℕ (Unit {0})) → s .maps x ≡ some f → (k : ℕ) → told-by (s .world) x (insert k) .numbers .refusal ≡ 0 → (told-by (noted sets published s x (insert k) .world) x (contains k) .numbers .case ≡ 7)
+pub told-after-insert : (s : Book sets) → Right sets published s → (x : ℕ) (f : Finite ℕ (Unit {0})) → s .maps x ≡ some f → (k : ℕ) → told-by (s .world) x (insert k) .numbers .refusal ≡ 0 → (told-by (noted sets published s x (insert k) .world) x (contains k) .numbers .case ≡ PRESENT)
 unfolding meant setMeant
 told-after-insert s h x f e k r =
     let g = noted sets published s x (insert k) in
     let run = told-in-step sets published sets-linked sets-lawful owed owes-told ((x, (insert k)) ∷ (x, contains k) ∷ []) s h in
     let o = told-owed sets published sets-linked owed x (contains k) [] g (told-rest sets published sets-linked owed x (insert k) ((x, contains k) ∷ []) s run) _ (inserted-known sets published sets-linked s x (insert k) k tt f refl e r) in
-    let q = o ∙ looked-inserted sets (g .world x) f k (λ v i e. lookingUp 7 0 0 e) (λ e. lookingUp 8 0 0 e) tt refl in
+    let q = o ∙ looked-inserted sets (g .world x) f k (λ v i e. lookingUp PRESENT 0 0 e) (λ e. lookingUp ABSENT 0 0 e) tt refl in
     ap (λ n. n .case) q
 
-pub told-after-remove : (s : Book sets) → Right sets published s → (x : ℕ) (f : Finite ℕ (Unit {0})) → s .maps x ≡ some f → (k : ℕ) → told-by (s .world) x (remove k) .numbers .refusal ≡ 0 → told-by (noted sets published s x (remove k) .world) x (contains k) .numbers .case ≡ 8
+pub told-after-remove : (s : Book sets) → Right sets published s → (x : ℕ) (f : Finite ℕ (Unit {0})) → s .maps x ≡ some f → (k : ℕ) → told-by (s .world) x (remove k) .numbers .refusal ≡ 0 → told-by (noted sets published s x (remove k) .world) x (contains k) .numbers .case ≡ ABSENT
 unfolding meant setMeant
 told-after-remove s h x f e k r =
     let g = noted sets published s x (remove k) in
     let run = told-in-step sets published sets-linked sets-lawful owed owes-told ((x, remove k) ∷ (x, contains k) ∷ []) s h in
     let o = told-owed sets published sets-linked owed x (contains k) [] g (told-rest sets published sets-linked owed x (remove k) ((x, contains k) ∷ []) s run) _ (removed-known sets published sets-linked s x (remove k) k f refl e r) in
-    ap (λ n. n .case) (o ∙ looked-removed sets (g .world x) f k (λ v i e. lookingUp 7 0 0 e) (λ e. lookingUp 8 0 0 e) refl)
+    ap (λ n. n .case) (o ∙ looked-removed sets (g .world x) f k (λ v i e. lookingUp PRESENT 0 0 e) (λ e. lookingUp ABSENT 0 0 e) refl)

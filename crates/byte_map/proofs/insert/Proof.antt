@@ -1,9 +1,13 @@
 -- `byte_map::insert` meets its contract: the value changes in the key's slot, or the first free slot takes the key.
 use borrow.Author.Needs.{needs}
 use native.Mathlib.Omega.{arith}
+use Rattle.model.specs.Calls.{storedBy}
+use Rattle.answers.specs.Numbers.{storedNumbers}
+use Rattle.answers.specs.Said.{storedSaid}
+use Rattle.byte_slots.proofs.Calls.{insert-says}
 use Rattle.byte_slots.proofs.Planning.{map-plan-insert-inside}
 use Rattle.byte_arena.proofs.Plans.{map-plan-insert-free}
-use Rattle.byte_map.proofs.Laws.{insert-hit, insert-free, insert-refused}
+use Rattle.byte_map.proofs.Laws.{insert-fresh}
 use Rattle.byte_map.proofs.insert.Statement.{statement}
 use Rattle.byte_map.proofs.insert.Tie as tie
 
@@ -29,13 +33,15 @@ slice-write-values-2 : tie.Need-slice-write-values-2
 slice-write-values-2 c = map-plan-insert-free _ _ (c .before .before .before .before .before .before .before .before .before .before .before .before .before .before .before .before .map-plan-insert .ensures) (c .before .before .before .before .before .before .before .before .before .before .before .before .before .before .plan2 .given .1) .1
 
 returns : tie.Need-returns
-returns c = insert-hit _ _ _ (c .before .before .before .before .map-plan-insert .ensures) (c .before .before .plan .given .1)
+unfolding storedNumbers storedSaid storedBy
+returns c = insert-says _ _ (c .before .before .before .before .map-plan-insert .ensures) (c .before .before .plan .given .1) _
 
 returns-2 : tie.Need-returns-2
-returns-2 c = insert-free _ _ _ (c .before .before .before .before .before .before .before .before .before .before .before .before .before .before .before .before .map-plan-insert .ensures) (c .before .before .before .before .before .before .before .before .before .before .before .before .before .before .plan2 .given .1) (c .before .before .before .before .before .before .before .before .fill .ensures)
+returns-2 c = insert-fresh _ _ _ (c .before .before .before .before .before .before .before .before .before .before .before .before .before .before .before .before .map-plan-insert .ensures) (c .before .before .before .before .before .before .before .before .before .before .before .before .before .before .plan2 .given .1) (c .before .before .before .before .before .before .before .before .fill .ensures)
 
 returns-3 : tie.Need-returns-3
-returns-3 c = insert-refused _ _ _ (c .before .before .before .map-plan-insert .ensures) (c .before .plan3 .given .1)
+unfolding storedNumbers storedSaid storedBy
+returns-3 c = insert-says _ _ (c .before .before .before .map-plan-insert .ensures) (c .before .plan3 .given .1) _
 
 pub insert-spec : {M : Type 1} → statement M
 insert-spec =

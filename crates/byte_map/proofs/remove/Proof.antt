@@ -1,8 +1,12 @@
 -- `byte_map::remove` meets its contract: the found slot is freed, its words become 0, its gap is closed.
 use borrow.Author.Needs.{needs}
 use native.Mathlib.Omega.{arith}
+use Rattle.model.specs.Calls.{removedBy}
+use Rattle.answers.specs.Numbers.{removedNumbers}
+use Rattle.answers.specs.Said.{removedSaid}
+use Rattle.byte_slots.proofs.Calls.{remove-says}
 use Rattle.byte_arena.proofs.Plans.{map-plan-remove-hit}
-use Rattle.byte_map.proofs.Laws.{remove-hit, remove-absent, remove-refused}
+use Rattle.byte_map.proofs.Laws.{remove-hit}
 use Rattle.byte_map.proofs.remove.Statement.{statement}
 use Rattle.byte_map.proofs.remove.Tie as tie
 
@@ -25,10 +29,12 @@ returns : tie.Need-returns
 returns c = remove-hit _ _ (c .before .before .before .before .before .before .before .before .before .before .before .before .before .before .before .before .before .map-plan-remove .ensures) (c .before .before .before .before .before .before .before .before .before .before .before .before .before .before .before .plan .given .1) (c .before .before .before .before .before .before .before .before .free .ensures)
 
 returns-2 : tie.Need-returns-2
-returns-2 c = remove-absent _ _ (c .before .before .before .map-plan-remove .ensures) (c .before .plan2 .given .1)
+unfolding removedNumbers removedSaid removedBy
+returns-2 c = remove-says _ _ (c .before .before .before .map-plan-remove .ensures) (c .before .plan2 .given .1)
 
 returns-3 : tie.Need-returns-3
-returns-3 c = remove-refused _ _ (c .before .before .before .map-plan-remove .ensures) (c .before .plan3 .given .1)
+unfolding removedNumbers removedSaid removedBy
+returns-3 c = remove-says _ _ (c .before .before .before .map-plan-remove .ensures) (c .before .plan3 .given .1)
 
 pub remove-spec : {M : Type 1} → statement M
 remove-spec =

@@ -3,8 +3,9 @@ use borrow.Author.Needs.{needs}
 use Rattle.model.specs.Calls.{storedBy}
 use Rattle.answers.specs.Numbers.{joinedNumbers}
 use Rattle.answers.specs.Said.{joinedSaid}
+use Rattle.byte_slots.proofs.Calls.{set-insert-says}
 use Rattle.byte_arena.proofs.Plans.{plan-fillable}
-use Rattle.byte_set.proofs.Laws.{insert-says, insert-fresh}
+use Rattle.byte_set.proofs.Laws.{insert-fresh}
 use Rattle.byte_set.proofs.insert.Statement.{statement}
 use Rattle.byte_set.proofs.insert.Tie as tie
 
@@ -13,14 +14,14 @@ fill-requires c κs = plan-fillable _ _ (c .before .before .before .before .befo
 
 returns : tie.Need-returns
 unfolding joinedNumbers joinedSaid storedBy
-returns c = insert-says _ _ (c .before .before .before .plan-insert .ensures) (c .before .plan .given .1)
+returns c = set-insert-says _ _ (c .before .before .before .plan-insert .ensures) (c .before .plan .given .1)
 
 returns-2 : tie.Need-returns-2
 returns-2 c = insert-fresh _ _ (c .before .before .before .before .before .before .before .before .before .before .before .before .before .before .before .before .plan-insert .ensures) (c .before .before .before .before .before .before .before .before .before .before .before .before .before .before .plan2 .given .1) (c .before .before .before .before .before .before .before .before .fill .ensures)
 
 returns-3 : tie.Need-returns-3
 unfolding joinedNumbers joinedSaid storedBy
-returns-3 c = insert-says _ _ (c .before .before .before .plan-insert .ensures) (c .before .plan3 .given .1)
+returns-3 c = set-insert-says _ _ (c .before .before .before .plan-insert .ensures) (c .before .plan3 .given .1)
 
 pub insert-spec : {M : Type 1} → statement M
 insert-spec =

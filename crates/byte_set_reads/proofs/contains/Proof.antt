@@ -2,7 +2,7 @@
 use borrow.Author.Needs.{needs}
 use Rattle.answers.specs.Numbers.{containedNumbers}
 use Rattle.answers.specs.Said.{containedSaid}
-use Rattle.byte_set_reads.proofs.Laws.{contains-says}
+use Rattle.byte_slots.proofs.Calls.{contains-says}
 use Rattle.byte_set_reads.proofs.contains.Statement.{statement}
 use Rattle.byte_set_reads.proofs.contains.Tie as tie
 

@@ -2,7 +2,8 @@
 use borrow.Author.Needs.{needs}
 use Rattle.answers.specs.Numbers.{spannedNumbers}
 use Rattle.answers.specs.Said.{spannedSaid}
-use Rattle.byte_set_reads.proofs.Laws.{get-says, get-inside, get-found}
+use Rattle.byte_slots.proofs.Calls.{set-get-says}
+use Rattle.byte_set_reads.proofs.Laws.{get-inside, get-found}
 use Rattle.byte_set_reads.proofs.get.Statement.{statement}
 use Rattle.byte_set_reads.proofs.get.Tie as tie
 
@@ -14,15 +15,15 @@ returns c = get-found _ _ (c .before .before .before .before .before .probe .ens
 
 returns-2 : tie.Need-returns-2
 unfolding spannedNumbers spannedSaid
-returns-2 c = get-says _ _ (c .before .before .before .probe .ensures) (c .before .seen2 .given .1)
+returns-2 c = set-get-says _ _ (c .before .before .before .probe .ensures) (c .before .seen2 .given .1)
 
 returns-3 : tie.Need-returns-3
 unfolding spannedNumbers spannedSaid
-returns-3 c = get-says _ _ (c .before .before .before .probe .ensures) (c .before .seen3 .given .1)
+returns-3 c = set-get-says _ _ (c .before .before .before .probe .ensures) (c .before .seen3 .given .1)
 
 returns-4 : tie.Need-returns-4
 unfolding spannedNumbers spannedSaid
-returns-4 c = get-says _ _ (c .before .before .before .probe .ensures) (c .before .seen4 .given .1)
+returns-4 c = set-get-says _ _ (c .before .before .before .probe .ensures) (c .before .seen4 .given .1)
 
 pub get-spec : {M : Type 1} → statement M
 get-spec =
