@@ -176,7 +176,7 @@ static bool walked(void)
     MOSS_INT_MAP(table, 4);
     moss_answer pair;
     uint64_t sum = 0;
-    bool right = true;
+    bool right = moss_int_map_walk_start() + moss_int_set_walk_start() + moss_byte_map_walk_start() + moss_byte_set_walk_start() == 0;
     for (uint64_t key = 1; key <= 3; key++)
         right = right && moss_im_insert(&table, key, 10 * key).which == MOSS_FRESH;
     MOSS_WALK (im, &table, pair) {
