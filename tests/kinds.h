@@ -27,9 +27,11 @@ struct array {
     uint8_t *before;
 };
 
+/* from the list: table */
 struct table {
     struct array columns[MOST_COLUMNS];
 };
+/* end of table */
 
 /* The arguments of a call; a key is a word or lent bytes, a walk a number or a lent one. */
 struct order {
@@ -68,10 +70,19 @@ struct kind {
 #define SMALL(t, c) (t)->columns[c].data, (t)->columns[c].count
 #define SHORTS(t, c) (uint16_t *)(void *)(t)->columns[c].data, (t)->columns[c].count
 #define WORDS(t, c) (uint64_t *)(void *)(t)->columns[c].data, (t)->columns[c].count
+/* from the list: lending */
 #define INT_MAP(t) SMALL(t, 0), WORDS(t, 1), WORDS(t, 2)
+#define INT_MAP_STRUCT(type, t) &(type){(t)->columns[0].data, (void *)(t)->columns[1].data, (void *)(t)->columns[2].data, \
+    (t)->columns[0].count}
 #define INT_SET(t) SMALL(t, 0), WORDS(t, 1)
+#define INT_SET_STRUCT(type, t) &(type){(t)->columns[0].data, (void *)(t)->columns[1].data, (t)->columns[0].count}
 #define BYTE_MAP(t) SMALL(t, 0), SHORTS(t, 1), SMALL(t, 2), WORDS(t, 3), SMALL(t, 4)
+#define BYTE_MAP_STRUCT(type, t) &(type){(t)->columns[0].data, (void *)(t)->columns[1].data, (t)->columns[2].data, \
+    (void *)(t)->columns[3].data, (t)->columns[4].data, (t)->columns[0].count, (t)->columns[4].count}
 #define BYTE_SET(t) SMALL(t, 0), SHORTS(t, 1), SMALL(t, 2), SMALL(t, 3)
+#define BYTE_SET_STRUCT(type, t) &(type){(t)->columns[0].data, (void *)(t)->columns[1].data, (t)->columns[2].data, \
+    (t)->columns[3].data, (t)->columns[0].count, (t)->columns[3].count}
+/* end of lending */
 #define INT_KEY(o) (o)->key
 #define BYTE_KEY(o) (o)->bytes.data, (o)->bytes.count
 

@@ -10,14 +10,10 @@
 enum { SLOTS = 5, ARENA = 9, ORDERS = 20000, KEYS = 6 };
 
 /* The same calls by the struct, which the macros IM, IS, BM and BS make of a table. */
-#define IM(t) &(moss_int_map){(t)->columns[0].data, (void *)(t)->columns[1].data, (void *)(t)->columns[2].data, SLOTS}
-#define IS(t) &(moss_int_set){(t)->columns[0].data, (void *)(t)->columns[1].data, SLOTS}
-#define BM(t) \
-    &(moss_byte_map) \
-    { \
-        (t)->columns[0].data, (void *)(t)->columns[1].data, (t)->columns[2].data, (void *)(t)->columns[3].data, (t)->columns[4].data, SLOTS, ARENA \
-    }
-#define BS(t) &(moss_byte_set){(t)->columns[0].data, (void *)(t)->columns[1].data, (t)->columns[2].data, (t)->columns[3].data, SLOTS, ARENA}
+#define IM(t) INT_MAP_STRUCT(moss_int_map, t)
+#define IS(t) INT_SET_STRUCT(moss_int_set, t)
+#define BM(t) BYTE_MAP_STRUCT(moss_byte_map, t)
+#define BS(t) BYTE_SET_STRUCT(moss_byte_set, t)
 
 INT_MAP_CALLS(im, IM)
 INT_SET_CALLS(is, IS)
@@ -25,15 +21,10 @@ BYTE_MAP_CALLS(bm, BM)
 BYTE_SET_CALLS(bs, BS)
 
 /* And the reading ones by a view. */
-#define IMV(t) &(moss_int_map_view){(t)->columns[0].data, (void *)(t)->columns[1].data, (void *)(t)->columns[2].data, SLOTS}
-#define ISV(t) &(moss_int_set_view){(t)->columns[0].data, (void *)(t)->columns[1].data, SLOTS}
-#define BMV(t) \
-    &(moss_byte_map_view) \
-    { \
-        (t)->columns[0].data, (void *)(t)->columns[1].data, (t)->columns[2].data, (void *)(t)->columns[3].data, (t)->columns[4].data, SLOTS, ARENA \
-    }
-#define BSV(t) \
-    &(moss_byte_set_view){(t)->columns[0].data, (void *)(t)->columns[1].data, (t)->columns[2].data, (t)->columns[3].data, SLOTS, ARENA}
+#define IMV(t) INT_MAP_STRUCT(moss_int_map_view, t)
+#define ISV(t) INT_SET_STRUCT(moss_int_set_view, t)
+#define BMV(t) BYTE_MAP_STRUCT(moss_byte_map_view, t)
+#define BSV(t) BYTE_SET_STRUCT(moss_byte_set_view, t)
 
 INT_MAP_READS(imv, IMV)
 INT_SET_READS(isv, ISV)
