@@ -4,12 +4,23 @@
 
 #include <inttypes.h>
 #include <stdio.h>
+#include <stdlib.h>
 #include <string.h>
 
 #define TEXT(words) (const uint8_t *)(words), strlen(words)
 
 MOSS_INT_MAP(curves, 8);      /* chemistry byte -> metres for each percent of charge */
 MOSS_BYTE_MAP(packs, 8, 40);  /* label -> chemistry byte and percent of charge */
+
+/* The answer of a call that must not be refused here; else the program says why it ends. */
+static moss_answer must(moss_answer answer)
+{
+    if (answer.refusal != 0) {
+        printf("refused: %s\n", moss_refusal_name(answer.refusal));
+        exit(1);
+    }
+    return answer;
+}
 
 static uint64_t pack(uint64_t chemistry, uint64_t percent)
 {
@@ -43,7 +54,7 @@ static void show(const char *label)
 /* One turn of the list: at most two slots are looked at. */
 static moss_answer list_some(uint64_t walk)
 {
-    moss_answer step = moss_bm_step(&packs, walk, 2);
+    moss_answer step = must(moss_bm_step(&packs, walk, 2));
     if (step.which == MOSS_PAIR)
         printf("listed %.*s\n", (int)step.length, (const char *)packs.arena + step.offset);
     return step;
@@ -51,21 +62,21 @@ static moss_answer list_some(uint64_t walk)
 
 int main(void)
 {
-    moss_im_insert(&curves, 1, 110);
-    moss_im_insert(&curves, 2, 95);
-    moss_bm_insert(&packs, TEXT("left"), pack(1, 64));
-    moss_bm_insert(&packs, TEXT("right"), pack(7, 100));
+    must(moss_im_insert(&curves, 1, 110));
+    must(moss_im_insert(&curves, 2, 95));
+    must(moss_bm_insert(&packs, TEXT("left"), pack(1, 64)));
+    must(moss_bm_insert(&packs, TEXT("right"), pack(7, 100)));
     show("left");
     show("right");
     show("spare");
 
     moss_answer step = list_some(moss_byte_map_walk_start());
-    moss_bm_remove(&packs, TEXT("right"));
-    moss_bm_insert(&packs, TEXT("trunk"), pack(2, 50));
-    while (step.refusal == 0 && step.which != MOSS_WALK_DONE)
+    must(moss_bm_remove(&packs, TEXT("right")));
+    must(moss_bm_insert(&packs, TEXT("trunk"), pack(2, 50)));
+    while (step.which != MOSS_WALK_DONE)
         step = list_some(step.walk);
     show("right");
     show("trunk");
-    printf("%" PRIu64 " packs\n", moss_bm_len(&packs).value);
-    return step.refusal != 0;
+    printf("%" PRIu64 " packs\n", must(moss_bm_len(&packs)).value);
+    return 0;
 }

@@ -1,5 +1,6 @@
-/* The calls that take a table's struct do what those that take its arrays do: the same orders are given to both, on tables that start
- * equal, and answers and memory are compared after each. Every call of every kind is accepted at least once. */
+/* The calls that take a table's struct, or a view of it, do what those that take its arrays do: the same orders are given to both, on
+ * tables that start equal, and answers and memory are compared after each. Every call of every kind is accepted at least once. Then
+ * the header's other means: storage at file scope, in a function and as members, tables that are const, walks by MOSS_WALK, names. */
 #include "kinds.h"
 
 #include <stdio.h>
@@ -9,22 +10,32 @@
 enum { SLOTS = 5, ARENA = 9, ORDERS = 20000, KEYS = 6 };
 
 /* The same calls by the struct, which the macros IM, IS, BM and BS make of a table. */
-#define IM(t) &(moss_int_map){(t)->columns[0].data, (void *)(t)->columns[1].data, (void *)(t)->columns[2].data, SLOTS}
-#define IS(t) &(moss_int_set){(t)->columns[0].data, (void *)(t)->columns[1].data, SLOTS}
-#define BM(t) \
-    &(moss_byte_map) \
-    { \
-        (t)->columns[0].data, (void *)(t)->columns[1].data, (t)->columns[2].data, (void *)(t)->columns[3].data, (t)->columns[4].data, SLOTS, ARENA \
-    }
-#define BS(t) &(moss_byte_set){(t)->columns[0].data, (void *)(t)->columns[1].data, (t)->columns[2].data, (t)->columns[3].data, SLOTS, ARENA}
+#define IM(t) INT_MAP_STRUCT(moss_int_map, t)
+#define IS(t) INT_SET_STRUCT(moss_int_set, t)
+#define BM(t) BYTE_MAP_STRUCT(moss_byte_map, t)
+#define BS(t) BYTE_SET_STRUCT(moss_byte_set, t)
 
-MAP_CALLS(im, IM, INT_KEY)
-SET_CALLS(is, IS, INT_KEY)
-MAP_CALLS(bm, BM, BYTE_KEY)
-SET_CALLS(bs, BS, BYTE_KEY)
+INT_MAP_CALLS(im, IM)
+INT_SET_CALLS(is, IS)
+BYTE_MAP_CALLS(bm, BM)
+BYTE_SET_CALLS(bs, BS)
+
+/* And the reading ones by a view. */
+#define IMV(t) INT_MAP_STRUCT(moss_int_map_view, t)
+#define ISV(t) INT_SET_STRUCT(moss_int_set_view, t)
+#define BMV(t) BYTE_MAP_STRUCT(moss_byte_map_view, t)
+#define BSV(t) BYTE_SET_STRUCT(moss_byte_set_view, t)
+
+INT_MAP_READS(imv, IMV)
+INT_SET_READS(isv, ISV)
+BYTE_MAP_READS(bmv, BMV)
+BYTE_SET_READS(bsv, BSV)
 
 /* In the order of `kinds`. */
-static function *const structs[][FUNCTIONS] = {MAP_FUNCTIONS(im), SET_FUNCTIONS(is), MAP_FUNCTIONS(bm), SET_FUNCTIONS(bs)};
+static function *const structs[][FUNCTIONS] = {
+    INT_MAP_CALLS_TABLE(im), INT_SET_CALLS_TABLE(is), BYTE_MAP_CALLS_TABLE(bm), BYTE_SET_CALLS_TABLE(bs)};
+static function *const views[][FUNCTIONS] = {
+    INT_MAP_READS_TABLE(imv), INT_SET_READS_TABLE(isv), BYTE_MAP_READS_TABLE(bmv), BYTE_SET_READS_TABLE(bsv)};
 
 /* Tables of storage that the header's macros declare; an arena may have no bytes. */
 MOSS_INT_MAP(int_map, 4);
@@ -92,6 +103,13 @@ static int compare(size_t k)
         moss_answer a = by_arrays(&o), b = by_struct(&p);
         if (memcmp(&a, &b, sizeof a) != 0 || walks[0] != walks[1] || !equal(kind, &tables[0], &tables[2]) || !equal(kind, &tables[1], &tables[3]))
             return wrong(kind, call);
+        uint64_t lent = p.walk;
+        p.lent = &lent;
+        if (views[k][call] != NULL && call != WALK_ON) {
+            b = views[k][call](&p);
+            if (memcmp(&a, &b, sizeof a) != 0)
+                return wrong(kind, call);
+        }
         accepted[call] += a.refusal == 0;
     }
     for (enum call call = 0; call < FUNCTIONS; call++)
@@ -101,19 +119,93 @@ static int compare(size_t k)
 }
 
 /* A table that a macro declares is empty and takes keys. */
-static int declared(void)
+static bool declared(void)
 {
     const uint8_t key[] = {'a', 'b'};
+    MOSS_INT_SET(inside, 2);
     bool right = moss_im_is_empty(&int_map).which == MOSS_EMPTY && moss_im_insert(&int_map, 0, 10).slot == 1;
     right = right && moss_is_insert(&int_set, 4).which == MOSS_FRESH && moss_is_contains(&int_set, 4).which == MOSS_PRESENT;
     right = right && moss_bm_insert(&byte_map, key, 2, 7).which == MOSS_FRESH && moss_bm_get(&byte_map, key, 2).value == 7;
     right = right && moss_bs_insert(&byte_set, NULL, 0).which == MOSS_FRESH && moss_bs_insert(&byte_set, key, 1).refusal == MOSS_REFUSED_NO_SLOT;
-    return right ? 0 : 1;
+    return right && moss_is_insert(&inside, 9).which == MOSS_FRESH && moss_is_capacity(&inside).value == 2;
+}
+
+/* Tables as members of a struct. */
+static bool members(void)
+{
+    struct {
+        MOSS_INT_MAP_MEMBERS(im, 3);
+        MOSS_INT_SET_MEMBERS(is, 4);
+        MOSS_BYTE_MAP_MEMBERS(bm, 5, 6);
+        MOSS_BYTE_SET_MEMBERS(bs, 6, 7);
+    } own = {0};
+    const moss_int_map im = MOSS_INT_MAP_IN(own, im);
+    const moss_int_set is = MOSS_INT_SET_IN(own, is);
+    const moss_byte_map bm = MOSS_BYTE_MAP_IN(own, bm);
+    const moss_byte_set bs = MOSS_BYTE_SET_IN(own, bs);
+    bool right = moss_im_capacity(&im).value == 3 && moss_is_capacity(&is).value == 4 && moss_bm_capacity(&bm).value == 5;
+    right = right && moss_bs_capacity(&bs).value == 6 && bm.arena_size == 6 && bs.arena_size == 7;
+    return right && moss_im_insert(&im, 8, 80).which == MOSS_FRESH && moss_im_get(&im, 8).value == 80;
+}
+
+/* A table in flash, by its view: slot 1 of 4 holds key 0, as in the scope's first line. Copied, and joined to another. */
+static bool constant(void)
+{
+    static const uint8_t marks[4] = {0, 1, 0, 0};
+    static const uint64_t keys[4] = {0}, values[4] = {0, 10, 0, 0};
+    static const moss_int_map_view flash = {marks, keys, values, 4};
+    MOSS_INT_MAP(copied, 4);
+    MOSS_INT_MAP(joined, 2);
+    bool right = moss_imv_get(&flash, 0).value == 10 && moss_im_copy_view(&copied, &flash).which == MOSS_DONE;
+    right = right && moss_im_get(&copied, 0).value == 10 && moss_im_union_prefer_right_view(&joined, &flash).which == MOSS_DONE;
+    return right && moss_im_get(&joined, 0).value == 10;
+}
+
+/* MOSS_WALK hands out each pair once, its slot behind the walk; a damaged slot ends it with its refusal. */
+static bool walked(void)
+{
+    MOSS_INT_MAP(table, 4);
+    moss_answer pair;
+    uint64_t sum = 0;
+    bool right = moss_int_map_walk_start() + moss_int_set_walk_start() + moss_byte_map_walk_start() + moss_byte_set_walk_start() == 0;
+    for (uint64_t key = 1; key <= 3; key++)
+        right = right && moss_im_insert(&table, key, 10 * key).which == MOSS_FRESH;
+    MOSS_WALK (im, &table, pair) {
+        sum += pair.value;
+        right = right && table.keys[pair.walk - 1] == pair.key;
+    }
+    right = right && sum == 60 && pair.refusal == 0 && pair.which == MOSS_WALK_DONE;
+    table.marks[3] = 9;
+    MOSS_WALK (im, &table, pair)
+        sum += 1;
+    return right && pair.refusal == MOSS_REFUSED_DAMAGED && sum <= 63;
+}
+
+/* The first `count` names are each another, and those behind them one and the same. */
+static bool apart(const char *(*name)(uint64_t), uint64_t count)
+{
+    for (uint64_t n = 0; n <= count; n++)
+        for (uint64_t m = 0; m < n; m++)
+            if (strcmp(name(n), name(m)) == 0)
+                return false;
+    return strcmp(name(count), name(UINT64_MAX)) == 0;
+}
+
+static bool named(void)
+{
+    return apart(moss_refusal_name, MOSS_REFUSED_NO_BYTES + 1) && apart(moss_case_name, MOSS_NOW + 1);
 }
 
 int main(void)
 {
-    int failed = declared();
+    static const struct {
+        const char *name;
+        bool (*right)(void);
+    } parts[] = {{"declared", declared}, {"members", members}, {"constant", constant}, {"walked", walked}, {"named", named}};
+    int failed = 0;
+    for (size_t i = 0; i < sizeof parts / sizeof parts[0]; i++)
+        if (!parts[i].right())
+            failed += printf("%s\n", parts[i].name) > 0;
     for (size_t k = 0; k < sizeof kinds / sizeof kinds[0]; k++)
         failed += compare(k);
     return failed;

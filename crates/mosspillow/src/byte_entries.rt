@@ -1,11 +1,11 @@
-// The byte map's entries for C: each call as byte_map_entry has it, its answer as numbers.
+// The byte map's entries for C: each call as byte_map_entry, byte_map_occupied and byte_map_vacant have it, its answer as numbers.
 ghost use mathlib.Core.Path.{_≡_};
 ghost use lib.ListN.{length};
-ghost use Rattle.kinds.specs.Told.{told};
 ghost use Rattle.kinds.specs.Calls.{entryOf, heldOf, setOf, takenOf, vacantInsertOf, orInsertOf, insertEntryOf};
+ghost use Rattle.kinds.specs.Handing.{handleAs};
+ghost use Rattle.kinds.specs.Told.{told};
 ghost use Rattle.byte_slots.specs.Kinds.{maps};
 ghost use Rattle.byte_slots.specs.Maps.{before, after};
-ghost use Rattle.kinds.specs.Handing.{handleAs};
 use answers::Numbers;
 use byte_map_entry::entered_numbers;
 use byte_map_entry::entry_by_case;
@@ -89,7 +89,7 @@ pub extern "C" fn moss_byte_map_occupied_remove(
     taken_numbers(handle.remove(marks, offsets, lengths, values, arena, key))
 }
 
-// Frees the slot; the value is answered, and its key is the one given.
+// Frees the slot; the value is answered, and the key is the one given.
 #[no_mangle]
 pub extern "C" fn moss_byte_map_occupied_remove_entry(
     marks: &mut [u8],

@@ -1,8 +1,8 @@
 // The byte map for C: each call as byte_map, byte_map_reads, byte_map_union and byte_map_walk have it, its answer as numbers.
 ghost use mathlib.Core.Path.{_≡_};
-ghost use Rattle.kinds.specs.Told.{told};
-ghost use Rattle.kinds.specs.Moved.{movedOn};
 ghost use Rattle.kinds.specs.Calls.{makeOf, capacityOf, lenOf, isEmptyOf, reserveOf, getOf, containsOf, removeOf, copyOf, unionOf};
+ghost use Rattle.kinds.specs.Moved.{movedOn};
+ghost use Rattle.kinds.specs.Told.{told};
 ghost use Rattle.byte_slots.specs.Kinds.{maps, insertOf, stepOf};
 ghost use Rattle.byte_slots.specs.Maps.{before, after};
 use answers::Numbers;

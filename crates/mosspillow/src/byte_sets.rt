@@ -1,9 +1,9 @@
 // The byte set for C: each call as byte_set, byte_set_reads and byte_set_walk have it, its answer as numbers.
 ghost use mathlib.Core.Path.{_≡_};
-ghost use Rattle.kinds.specs.Told.{told};
+ghost use Rattle.kinds.specs.Calls.{makeOf, capacityOf, lenOf, isEmptyOf, reserveOf, containsOf, droppedOf, copyOf};
 ghost use Rattle.kinds.specs.Moved.{movedOn};
-ghost use Rattle.kinds.specs.Calls.{makeOf, capacityOf, lenOf, isEmptyOf, reserveOf, containsOf, copyOf, droppedOf};
-ghost use Rattle.byte_slots.specs.Kinds.{sets, setInsertOf, setGetOf, setStepOf};
+ghost use Rattle.kinds.specs.Told.{told};
+ghost use Rattle.byte_slots.specs.Kinds.{sets, setGetOf, setInsertOf, setStepOf};
 ghost use Rattle.byte_slots.specs.Sets.{before, after};
 use answers::Numbers;
 use answers::contained_numbers;
@@ -96,7 +96,7 @@ pub extern "C" fn moss_byte_set_reserve(
     reserved_numbers(byte_set_reads::reserve(marks, offsets, lengths, arena, asked))
 }
 
-// Where the key is stored, where it is there.
+// The stored key's offset and length, where the key is there.
 #[no_mangle]
 pub extern "C" fn moss_byte_set_get(
     marks: &[u8],

@@ -1,11 +1,11 @@
-// The integer map's entries for C: each call as int_map_entry has it, its answer as numbers.
+// The integer map's entries for C: each call as int_map_entry, int_map_occupied and int_map_vacant have it, its answer as numbers.
 ghost use mathlib.Core.Path.{_≡_};
 ghost use lib.ListN.{length};
+ghost use Rattle.kinds.specs.Calls.{entryOf, heldOf, setOf, takenOf, vacantInsertOf, orInsertOf, insertEntryOf};
+ghost use Rattle.kinds.specs.Handing.{handleAs};
 ghost use Rattle.kinds.specs.Told.{told};
 ghost use Rattle.int_slots.specs.Kinds.{removeEntryOf};
-ghost use Rattle.kinds.specs.Calls.{heldOf, setOf, takenOf, vacantInsertOf, entryOf, orInsertOf, insertEntryOf};
-ghost use Rattle.int_slots.specs.Maps.{maps, before, after};
-ghost use Rattle.kinds.specs.Handing.{handleAs};
+ghost use Rattle.int_slots.specs.Maps.{before, maps, after};
 use answers::Numbers;
 use int_map_entry::entered_numbers;
 use int_map_entry::entry_by_case;

@@ -1,10 +1,10 @@
 // The integer map for C: each call as int_map, int_map_reads, int_map_union and int_map_walk have it, its answer as numbers.
 ghost use mathlib.Core.Path.{_≡_};
-ghost use Rattle.kinds.specs.Told.{told};
+ghost use Rattle.kinds.specs.Calls.{makeOf, capacityOf, lenOf, isEmptyOf, reserveOf, getOf, containsOf, removeOf, copyOf, unionOf};
 ghost use Rattle.kinds.specs.Moved.{movedOn};
+ghost use Rattle.kinds.specs.Told.{told};
 ghost use Rattle.int_slots.specs.Kinds.{insertOf};
-ghost use Rattle.kinds.specs.Calls.{makeOf, removeOf, capacityOf, lenOf, isEmptyOf, reserveOf, getOf, containsOf, copyOf, unionOf};
-ghost use Rattle.int_slots.specs.Maps.{maps, before, after};
+ghost use Rattle.int_slots.specs.Maps.{before, maps, after};
 ghost use Rattle.int_slots.specs.Steps.{stepOf};
 use answers::Numbers;
 use answers::contained_numbers;

@@ -1,10 +1,10 @@
 // The integer set for C: each call as int_set, int_set_reads and int_set_walk have it, its answer as numbers.
 ghost use mathlib.Core.Path.{_≡_};
-ghost use Rattle.kinds.specs.Told.{told};
+ghost use Rattle.kinds.specs.Calls.{makeOf, capacityOf, lenOf, isEmptyOf, reserveOf, containsOf, droppedOf, copyOf};
 ghost use Rattle.kinds.specs.Moved.{movedOn};
-ghost use Rattle.int_slots.specs.Sets.{sets, before, after};
-ghost use Rattle.kinds.specs.Calls.{makeOf, droppedOf, capacityOf, lenOf, isEmptyOf, reserveOf, containsOf, copyOf};
-ghost use Rattle.int_slots.specs.Kinds.{setInsertOf, setGetOf};
+ghost use Rattle.kinds.specs.Told.{told};
+ghost use Rattle.int_slots.specs.Kinds.{setGetOf, setInsertOf};
+ghost use Rattle.int_slots.specs.Sets.{before, sets, after};
 ghost use Rattle.int_slots.specs.Steps.{setStepOf};
 use answers::Numbers;
 use answers::added_numbers;

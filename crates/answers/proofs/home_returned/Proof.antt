@@ -25,16 +25,9 @@ refusal-returned a r n p e =
     let z : numberOf r ≡ 0 → ⊥ = λ z. omega (arith, numberOf-range r .0) in
     rw (p, ne-eqb (numberOf r) 0 z, e)
 
-add-result : tie.Need-add-result
-add-result c = omega (arith, numberOf-range (c .before .before .answer2 .given .0 .0) .1)
-
-returns : tie.Need-returns
-returns c = slot-returned _ _ (c .before .answer .given .1)
-
-returns-2 : tie.Need-returns-2
-returns-2 c = refusal-returned _ _ _ (c .before .before .answer2 .given .1) (c .number .ensures)
-
 pub home-returned-spec : {M : Type 1} → statement M
 home-returned-spec =
     tie.close (tie.spec
-    (λ c. search needs) (λ c. search needs) (λ c κs. search needs) add-result returns returns-2)
+    (λ c. search needs) (λ c. search needs) (λ c κs. search needs)
+    (λ c. omega (arith, numberOf-range (c .before .before .answer2 .given .0 .0) .1)) (λ c. slot-returned _ _ (c .before .answer .given .1))
+    (λ c. refusal-returned _ _ _ (c .before .before .answer2 .given .1) (c .number .ensures)))

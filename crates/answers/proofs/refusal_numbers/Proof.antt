@@ -3,9 +3,6 @@ use borrow.Author.Needs.{needs}
 use Rattle.answers.proofs.refusal_numbers.Statement.{statement}
 use Rattle.answers.proofs.refusal_numbers.Tie as tie
 
-returns : tie.Need-returns
-returns c = cc
-
 pub refusal-numbers-spec : {M : Type 1} → statement M
 refusal-numbers-spec = tie.close (tie.spec
-    (λ c κs. search needs) returns)
+    (λ c κs. search needs) (λ c. cc))

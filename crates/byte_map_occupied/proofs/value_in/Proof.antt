@@ -4,14 +4,10 @@ use borrow.Author.Needs.{needs}
 use Rattle.byte_map_occupied.proofs.value_in.Statement.{statement}
 use Rattle.byte_map_occupied.proofs.value_in.Tie as tie
 
-returns : tie.Need-returns
-returns c = value-look _ _ _ (c .before .before .before .if1 .taken) (c .before .before .look .ensures) (c .held-by .ensures)
-
-returns-2 : tie.Need-returns-2
-returns-2 c = value-beyond _ _ _ (c .if1 .left)
-
 pub value-in-spec : {M : Type 1} → statement M
 value-in-spec =
     tie.close
     (tie.spec
-    (λ c κs. search needs) (λ c. search needs) (λ c. search needs) (λ c κs. search needs) returns returns-2)
+    (λ c κs. search needs) (λ c. search needs) (λ c. search needs) (λ c κs. search needs)
+    (λ c. value-look _ _ _ (c .before .before .before .if1 .taken) (c .before .before .look .ensures) (c .held-by .ensures))
+    (λ c. value-beyond _ _ _ (c .if1 .left)))

@@ -7,12 +7,7 @@ use Rattle.byte_map_reads.proofs.Laws.{as-set, len-short}
 use Rattle.byte_map_reads.proofs.len.Statement.{statement}
 use Rattle.byte_map_reads.proofs.len.Tie as tie
 
-returns : tie.Need-returns
-returns c = c .len .ensures ∙ len-beside maps sets (as-set _ (c .before .if1 .taken))
-
-returns-2 : tie.Need-returns-2
-returns-2 c = len-short _ (c .if1 .left)
-
 pub len-spec : {M : Type 1} → statement M
 len-spec = tie.close (tie.spec
-    (λ c κs. search needs) returns returns-2)
+    (λ c κs. search needs) (λ c. c .len .ensures ∙ len-beside maps sets (as-set _ (c .before .if1 .taken)))
+    (λ c. len-short _ (c .if1 .left)))

@@ -6,12 +6,7 @@ use Rattle.byte_slots.proofs.Sets.{fit, unfit}
 use Rattle.byte_set_reads.proofs.capacity.Statement.{statement}
 use Rattle.byte_set_reads.proofs.capacity.Tie as tie
 
-returns : tie.Need-returns
-returns c = capacity-sized sets _ (fit _ (c .before .fits2 .ensures) (c .if1 .taken))
-
-returns-2 : tie.Need-returns-2
-returns-2 c = capacity-unsized sets _ (unfit _ (c .before .fits2 .ensures) (c .if1 .left))
-
 pub capacity-spec : {M : Type 1} → statement M
 capacity-spec = tie.close (tie.spec
-    (λ c κs. search needs) returns returns-2)
+    (λ c κs. search needs) (λ c. capacity-sized sets _ (fit _ (c .before .fits2 .ensures) (c .if1 .taken)))
+    (λ c. capacity-unsized sets _ (unfit _ (c .before .fits2 .ensures) (c .if1 .left))))

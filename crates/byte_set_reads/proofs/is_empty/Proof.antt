@@ -5,17 +5,12 @@ use Rattle.kinds.proofs.Counts.{empty-none, empty-some, empty-not}
 use Rattle.byte_set_reads.proofs.is_empty.Statement.{statement}
 use Rattle.byte_set_reads.proofs.is_empty.Tie as tie
 
-returns : tie.Need-returns
-returns c = empty-none sets _ (c .before .before .before .before .len .ensures) (c .before .before .count .given .1) (c .if1 .taken)
-
-returns-2 : tie.Need-returns-2
-returns-2 c = empty-some sets _ (c .before .before .before .before .len .ensures) (c .before .before .count .given .1) (c .if1 .left)
-
-returns-3 : tie.Need-returns-3
-returns-3 c = empty-not sets _ (c .before .before .before .len .ensures) (c .before .count2 .given .1)
-
 pub is-empty-spec : {M : Type 1} → statement M
 is-empty-spec =
     tie.close
     (tie.spec
-    (λ c κs. search needs) (λ c. search needs) returns (λ c. search needs) returns-2 returns-3)
+    (λ c κs. search needs) (λ c. search needs)
+    (λ c. empty-none sets _ (c .before .before .before .before .len .ensures) (c .before .before .count .given .1) (c .if1 .taken))
+    (λ c. search needs)
+    (λ c. empty-some sets _ (c .before .before .before .before .len .ensures) (c .before .before .count .given .1) (c .if1 .left))
+    (λ c. empty-not sets _ (c .before .before .before .len .ensures) (c .before .count2 .given .1)))

@@ -5,12 +5,7 @@ use borrow.Author.Needs.{needs}
 use Rattle.byte_slots.proofs.len_at.Statement.{statement}
 use Rattle.byte_slots.proofs.len_at.Tie as tie
 
-cast-result : tie.Need-cast-result
-cast-result c = omega (arith, c .shared-slice-known .given (c .before .args .i))
-
-returns : tie.Need-returns
-returns c = (refl, omega (arith, c .shared-slice-known .given (c .before .args .i)))
-
 pub len-at-spec : {M : Type 1} → statement M
 len-at-spec = tie.close (tie.spec
-    (λ c. search needs) cast-result returns)
+    (λ c. search needs) (λ c. omega (arith, c .shared-slice-known .given (c .before .args .i)))
+    (λ c. (refl, omega (arith, c .shared-slice-known .given (c .before .args .i)))))

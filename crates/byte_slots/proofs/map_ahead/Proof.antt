@@ -4,12 +4,6 @@ use Rattle.byte_slots.proofs.Steps.{ahead-long, ahead-short}
 use Rattle.byte_slots.proofs.map_ahead.Statement.{statement}
 use Rattle.byte_slots.proofs.map_ahead.Tie as tie
 
-returns : tie.Need-returns
-returns c = ahead-long _ _ _ _ (c .before .if1 .taken) (c .ahead .ensures)
-
-returns-2 : tie.Need-returns-2
-returns-2 c = ahead-short _ _ _ _ (c .if1 .left)
-
 pub map-ahead-spec : {M : Type 1} → statement M
 map-ahead-spec = tie.close (tie.spec
-    (λ c κs. search needs) returns returns-2)
+    (λ c κs. search needs) (λ c. ahead-long _ _ _ _ (c .before .if1 .taken) (c .ahead .ensures)) (λ c. ahead-short _ _ _ _ (c .if1 .left)))

@@ -4,12 +4,7 @@ use Rattle.byte_slots.proofs.MapSizes.{map-fits-more, map-fits-not}
 use Rattle.byte_slots.proofs.map_fits.Statement.{statement}
 use Rattle.byte_slots.proofs.map_fits.Tie as tie
 
-returns : tie.Need-returns
-returns c = map-fits-more _ (c .before .fits2 .ensures) (c .if1 .taken)
-
-returns-2 : tie.Need-returns-2
-returns-2 c = map-fits-not _ (c .before .fits2 .ensures) (c .if1 .left)
-
 pub map-fits-spec : {M : Type 1} → statement M
 map-fits-spec = tie.close (tie.spec
-    (λ c κs. search needs) returns returns-2)
+    (λ c κs. search needs) (λ c. map-fits-more _ (c .before .fits2 .ensures) (c .if1 .taken))
+    (λ c. map-fits-not _ (c .before .fits2 .ensures) (c .if1 .left)))

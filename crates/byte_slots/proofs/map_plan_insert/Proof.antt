@@ -4,12 +4,7 @@ use Rattle.byte_slots.proofs.Planning.{map-plan-insert-long, map-plan-i
 use Rattle.byte_slots.proofs.map_plan_insert.Statement.{statement}
 use Rattle.byte_slots.proofs.map_plan_insert.Tie as tie
 
-returns : tie.Need-returns
-returns c = map-plan-insert-long _ _ (c .before .if1 .taken) (c .plan-insert .ensures)
-
-returns-2 : tie.Need-returns-2
-returns-2 c = map-plan-insert-short _ _ (c .if1 .left)
-
 pub map-plan-insert-spec : {M : Type 1} → statement M
 map-plan-insert-spec = tie.close (tie.spec
-    (λ c κs. search needs) returns returns-2)
+    (λ c κs. search needs) (λ c. map-plan-insert-long _ _ (c .before .if1 .taken) (c .plan-insert .ensures))
+    (λ c. map-plan-insert-short _ _ (c .if1 .left)))

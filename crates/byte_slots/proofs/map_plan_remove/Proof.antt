@@ -4,12 +4,7 @@ use Rattle.byte_slots.proofs.Planning.{map-plan-remove-long, map-plan-r
 use Rattle.byte_slots.proofs.map_plan_remove.Statement.{statement}
 use Rattle.byte_slots.proofs.map_plan_remove.Tie as tie
 
-returns : tie.Need-returns
-returns c = map-plan-remove-long _ _ (c .before .if1 .taken) (c .plan-remove .ensures)
-
-returns-2 : tie.Need-returns-2
-returns-2 c = map-plan-remove-short _ _ (c .if1 .left)
-
 pub map-plan-remove-spec : {M : Type 1} → statement M
 map-plan-remove-spec = tie.close (tie.spec
-    (λ c κs. search needs) returns returns-2)
+    (λ c κs. search needs) (λ c. map-plan-remove-long _ _ (c .before .if1 .taken) (c .plan-remove .ensures))
+    (λ c. map-plan-remove-short _ _ (c .if1 .left)))

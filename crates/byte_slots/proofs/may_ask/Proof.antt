@@ -3,8 +3,6 @@ use Rattle.byte_slots.proofs.Sizes.{asked-test}
 use Rattle.byte_slots.proofs.may_ask.Statement.{statement}
 use Rattle.byte_slots.proofs.may_ask.Tie as tie
 
-returns : tie.Need-returns
-returns c = asked-test _
-
 pub may-ask-spec : {M : Type 1} → statement M
-may-ask-spec = tie.close (tie.spec returns)
+may-ask-spec = tie.close (tie.spec
+    (λ c. asked-test _))

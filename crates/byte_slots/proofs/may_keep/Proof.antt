@@ -3,8 +3,6 @@ use Rattle.byte_slots.proofs.Sizes.{kept-test}
 use Rattle.byte_slots.proofs.may_keep.Statement.{statement}
 use Rattle.byte_slots.proofs.may_keep.Tie as tie
 
-returns : tie.Need-returns
-returns c = kept-test _
-
 pub may-keep-spec : {M : Type 1} → statement M
-may-keep-spec = tie.close (tie.spec returns)
+may-keep-spec = tie.close (tie.spec
+    (λ c. kept-test _))

@@ -6,9 +6,7 @@ use borrow.Author.Needs.{needs}
 use Rattle.byte_slots.proofs.offset_at.Statement.{statement}
 use Rattle.byte_slots.proofs.offset_at.Tie as tie
 
-returns-2 : tie.Need-returns-2
-returns-2 c = sym (List·getD-eq-default (now (c .before .args .offsets)) 0 (c .if1 .left))
-
 pub offset-at-spec : {M : Type 1} → statement M
 offset-at-spec = tie.close (tie.spec
-    (λ c. search needs) (λ c. search needs) (λ c. search needs) returns-2)
+    (λ c. search needs) (λ c. search needs) (λ c. search needs)
+    (λ c. sym (List·getD-eq-default (now (c .before .args .offsets)) 0 (c .if1 .left))))

@@ -5,9 +5,6 @@ use borrow.Author.Needs.{needs}
 use Rattle.digest.proofs.slot_of.Statement.{statement}
 use Rattle.digest.proofs.slot_of.Tie as tie
 
-returns : tie.Need-returns
-returns c = rw (c .if1 .taken, mod-zero)
-
 pub slot-of-spec : {M : Type 1} → statement M
 slot-of-spec = tie.close (tie.spec
-    returns (λ c. search needs) (λ c. search needs))
+    (λ c. rw (c .if1 .taken, mod-zero)) (λ c. search needs) (λ c. search needs))

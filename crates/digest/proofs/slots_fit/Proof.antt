@@ -5,11 +5,6 @@ use borrow.Author.Tests.{lt-ltb}
 use Rattle.digest.proofs.slots_fit.Statement.{statement}
 use Rattle.digest.proofs.slots_fit.Tie as tie
 
-returns : tie.Need-returns
-returns c = rw (c .if1 .taken)
-
-returns-2 : tie.Need-returns-2
-returns-2 c = rw (lt-ltb 0 (c .before .args .slots) (search needs))
-
 pub slots-fit-spec : {M : Type 1} → statement M
-slots-fit-spec = tie.close (tie.spec returns returns-2)
+slots-fit-spec = tie.close (tie.spec
+    (λ c. rw (c .if1 .taken)) (λ c. rw (lt-ltb 0 (c .before .args .slots) (search needs))))

@@ -5,11 +5,9 @@ use Rattle.digest.proofs.Product.{product}
 use Rattle.digest.proofs.times_prime.Statement.{statement}
 use Rattle.digest.proofs.times_prime.Tie as tie
 
-returns : tie.Need-returns
-returns c = product _ _ _ (c .before .wrapping-add-u64 .ensures) (c .wrapping-add-u642 .ensures)
-
 pub times-prime-spec : {M : Type 1} → statement M
 times-prime-spec =
     tie.close
     (tie.spec
-    (λ c. search needs) (λ c. search needs) (λ c κs. search needs) (λ c κs. search needs) returns)
+    (λ c. search needs) (λ c. search needs) (λ c κs. search needs) (λ c κs. search needs)
+    (λ c. product _ _ _ (c .before .wrapping-add-u64 .ensures) (c .wrapping-add-u642 .ensures)))

@@ -8,12 +8,7 @@ use Rattle.int_map_reads.proofs.Laws.{as-set, empty-short}
 use Rattle.int_map_reads.proofs.is_empty.Statement.{statement}
 use Rattle.int_map_reads.proofs.is_empty.Tie as tie
 
-returns : tie.Need-returns
-returns c = (search needs) ∙ empty-beside maps sets (as-set _ (c .before .if1 .taken))
-
-returns-2 : tie.Need-returns-2
-returns-2 c = empty-short _ (c .if1 .left)
-
 pub is-empty-spec : {M : Type 1} → statement M
 is-empty-spec = tie.close (tie.spec
-    (λ c κs. search needs) returns returns-2)
+    (λ c κs. search needs) (λ c. (search needs) ∙ empty-beside maps sets (as-set _ (c .before .if1 .taken)))
+    (λ c. empty-short _ (c .if1 .left)))

@@ -8,12 +8,7 @@ use Rattle.int_map_reads.proofs.Laws.{as-set, reserve-short}
 use Rattle.int_map_reads.proofs.reserve.Statement.{statement}
 use Rattle.int_map_reads.proofs.reserve.Tie as tie
 
-returns : tie.Need-returns
-returns c = (search needs) ∙ reserve-beside maps sets (as-set _ (c .before .if1 .taken)) _
-
-returns-2 : tie.Need-returns-2
-returns-2 c = reserve-short _ (c .if1 .left) _
-
 pub reserve-spec : {M : Type 1} → statement M
 reserve-spec = tie.close (tie.spec
-    (λ c κs. search needs) returns returns-2)
+    (λ c κs. search needs) (λ c. (search needs) ∙ reserve-beside maps sets (as-set _ (c .before .if1 .taken)) _)
+    (λ c. reserve-short _ (c .if1 .left) _))

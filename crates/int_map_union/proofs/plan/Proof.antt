@@ -5,17 +5,12 @@ use borrow.Author.Needs.{needs}
 use Rattle.int_map_union.proofs.plan.Statement.{statement}
 use Rattle.int_map_union.proofs.plan.Tie as tie
 
-room-requires : tie.Need-room-requires
-room-requires c κs = (sym (c .before .before .before .map-fits .ensures) ∙ c .before .before .if1 .taken, sym (c .before .map-fits2 .ensures) ∙ c .if2 .taken)
-
-returns-2 : tie.Need-returns-2
-returns-2 c = right-unfit _ _ (c .before .before .before .map-fits .ensures) (c .before .before .if1 .taken) (c .before .map-fits2 .ensures) (c .if2 .left)
-
-returns-3 : tie.Need-returns-3
-returns-3 c = left-unfit _ _ (c .before .map-fits .ensures) (c .if1 .left)
-
 pub plan-spec : {M : Type 1} → statement M
 plan-spec =
     tie.close
     (tie.spec
-    (λ c κs. search needs) (λ c κs. search needs) room-requires (λ c. search needs) returns-2 returns-3)
+    (λ c κs. search needs) (λ c κs. search needs)
+    (λ c κs. (sym (c .before .before .before .map-fits .ensures) ∙ c .before .before .if1 .taken, sym (c .before .map-fits2 .ensures) ∙ c .if2 .taken))
+    (λ c. search needs)
+    (λ c. right-unfit _ _ (c .before .before .before .map-fits .ensures) (c .before .before .if1 .taken) (c .before .map-fits2 .ensures) (c .if2 .left))
+    (λ c. left-unfit _ _ (c .before .map-fits .ensures) (c .if1 .left)))

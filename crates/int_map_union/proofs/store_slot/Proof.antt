@@ -4,13 +4,9 @@ use borrow.Author.Needs.{needs}
 use Rattle.int_map_union.proofs.store_slot.Statement.{statement}
 use Rattle.int_map_union.proofs.store_slot.Tie as tie
 
-returns : tie.Need-returns
-returns c = slot-live _ _ _ _ (c .before .before .before .before .before .before .before .before .before .before .if1 .taken) (c .before .before .before .before .before .before .store .ensures)
-
-returns-2 : tie.Need-returns-2
-returns-2 c = slot-idle _ _ _ _ (c .if1 .left)
-
 pub store-slot-spec : {M : Type 1} → statement M
 store-slot-spec =
     tie.close (tie.spec
-    (λ c κs. search needs) (λ c. search needs) (λ c. search needs) (λ c. search needs) returns returns-2)
+    (λ c κs. search needs) (λ c. search needs) (λ c. search needs) (λ c. search needs)
+    (λ c. slot-live _ _ _ _ (c .before .before .before .before .before .before .before .before .before .before .if1 .taken) (c .before .before .before .before .before .before .store .ensures))
+    (λ c. slot-idle _ _ _ _ (c .if1 .left)))

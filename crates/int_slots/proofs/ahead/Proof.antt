@@ -4,12 +4,8 @@ use Rattle.int_slots.proofs.Steps.{set-ahead, set-unfit}
 use Rattle.int_slots.proofs.ahead.Statement.{statement}
 use Rattle.int_slots.proofs.ahead.Tie as tie
 
-returns : tie.Need-returns
-returns c = set-ahead _ _ _ _ (c .before .before .fits2 .ensures) (c .before .if1 .taken) (c .look-ahead .ensures)
-
-returns-2 : tie.Need-returns-2
-returns-2 c = set-unfit _ _ _ _ (c .before .fits2 .ensures) (c .if1 .left)
-
 pub ahead-spec : {M : Type 1} → statement M
 ahead-spec = tie.close (tie.spec
-    (λ c κs. search needs) (λ c κs. search needs) returns returns-2)
+    (λ c κs. search needs) (λ c κs. search needs)
+    (λ c. set-ahead _ _ _ _ (c .before .before .fits2 .ensures) (c .before .if1 .taken) (c .look-ahead .ensures))
+    (λ c. set-unfit _ _ _ _ (c .before .fits2 .ensures) (c .if1 .left)))

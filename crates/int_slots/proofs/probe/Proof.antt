@@ -4,16 +4,10 @@ use Rattle.int_slots.proofs.Sizes.{home-fits, probing-fit, probing-misf
 use Rattle.int_slots.proofs.probe.Statement.{statement}
 use Rattle.int_slots.proofs.probe.Tie as tie
 
-walk-path-requires : tie.Need-walk-path-requires
-walk-path-requires c κs = home-fits _ _ _ (c .before .before .fits2 .ensures) (c .before .if1 .taken) (c .slot-of-word .ensures)
-
-returns : tie.Need-returns
-returns c = probing-fit _ _ _ (c .before .before .before .fits2 .ensures) (c .before .before .if1 .taken) (c .before .slot-of-word .ensures) (c .walk-path .ensures)
-
-returns-2 : tie.Need-returns-2
-returns-2 c = probing-misfit _ _ _ (c .before .fits2 .ensures) (c .if1 .left)
-
 pub probe-spec : {M : Type 1} → statement M
 probe-spec =
     tie.close (tie.spec
-    (λ c κs. search needs) (λ c κs. search needs) walk-path-requires returns returns-2)
+    (λ c κs. search needs) (λ c κs. search needs)
+    (λ c κs. home-fits _ _ _ (c .before .before .fits2 .ensures) (c .before .if1 .taken) (c .slot-of-word .ensures))
+    (λ c. probing-fit _ _ _ (c .before .before .before .fits2 .ensures) (c .before .before .if1 .taken) (c .before .slot-of-word .ensures) (c .walk-path .ensures))
+    (λ c. probing-misfit _ _ _ (c .before .fits2 .ensures) (c .if1 .left)))

@@ -5,17 +5,11 @@ use borrow.Author.Needs.{needs}
 use Rattle.lines.proofs.keyed.Statement.{statement}
 use Rattle.lines.proofs.keyed.Tie as tie
 
-returns : tie.Need-returns
-returns c = rw (c .before .before .key .given .1, eq-eqb _ _ (c .if1 .taken))
-
-returns-2 : tie.Need-returns-2
-returns-2 c = rw (c .before .before .before .key .given .1, ne-eqb _ _ (c .before .if1 .left), eq-eqb _ _ (c .if2 .taken))
-
-returns-3 : tie.Need-returns-3
-returns-3 c = rw (c .before .before .before .key .given .1, ne-eqb _ _ (c .before .if1 .left), ne-eqb _ _ (c .if2 .left))
-
 pub keyed-spec : {M : Type 1} → statement M
 keyed-spec =
     tie.close
     (tie.spec
-    (λ c. search needs) returns returns-2 (λ c. search needs) (λ c. search needs) returns-3 (λ c. search needs) (λ c. search needs))
+    (λ c. search needs) (λ c. rw (c .before .before .key .given .1, eq-eqb _ _ (c .if1 .taken)))
+    (λ c. rw (c .before .before .before .key .given .1, ne-eqb _ _ (c .before .if1 .left), eq-eqb _ _ (c .if2 .taken))) (λ c. search needs)
+    (λ c. search needs) (λ c. rw (c .before .before .before .key .given .1, ne-eqb _ _ (c .before .if1 .left), ne-eqb _ _ (c .if2 .left)))
+    (λ c. search needs) (λ c. search needs))

@@ -5,15 +5,12 @@ use borrow.Author.Needs.{needs}
 use Rattle.lines.proofs.paired.Statement.{statement}
 use Rattle.lines.proofs.paired.Tie as tie
 
-returns : tie.Need-returns
-returns c = rw (c .before .before .before .before .before .key .given .1, c .before .before .value .given .1, eq-eqb _ _ (c .if1 .taken))
-
-returns-2 : tie.Need-returns-2
-returns-2 c = rw (c .before .before .before .before .before .key .given .1, c .before .before .value .given .1, ne-eqb _ _ (c .if1 .left))
-
 pub paired-spec : {M : Type 1} → statement M
 paired-spec =
     tie.close
     (tie.spec
-    (λ c. search needs) (λ c. search needs) returns (λ c. search needs) (λ c. search needs) (λ c. search needs) (λ c. search needs)
-    returns-2 (λ c. search needs) (λ c. search needs) (λ c. search needs) (λ c. search needs))
+    (λ c. search needs) (λ c. search needs)
+    (λ c. rw (c .before .before .before .before .before .key .given .1, c .before .before .value .given .1, eq-eqb _ _ (c .if1 .taken)))
+    (λ c. search needs) (λ c. search needs) (λ c. search needs) (λ c. search needs)
+    (λ c. rw (c .before .before .before .before .before .key .given .1, c .before .before .value .given .1, ne-eqb _ _ (c .if1 .left)))
+    (λ c. search needs) (λ c. search needs) (λ c. search needs) (λ c. search needs))

@@ -7,16 +7,10 @@ use borrow.Author.Needs.{needs}
 use Rattle.slots.proofs.say_number.Statement.{statement}
 use Rattle.slots.proofs.say_number.Tie as tie
 
-sub-say : tie.Need-sub-say
-sub-say c = omega (arith, ap (λ (d : Decimal). d .from) (c .before .of .ensures))
-
-part-say-start : tie.Need-part-say-start
-part-say-start c = omega (arith, ap (λ (d : Decimal). d .from) (c .before .before .of .ensures))
-
-part-say-end : tie.Need-part-say-end
-part-say-end c = let l : length (c .before .before .of .result .digits) ≡ 20 = search needs in omega arith
-
 pub say-number-spec : {M : Type 1} → statement M
 say-number-spec =
     tie.close (tie.spec
-    (λ c κs. search needs) sub-say part-say-start part-say-end (λ c κs. search needs) (λ c. search needs))
+    (λ c κs. search needs) (λ c. omega (arith, ap (λ (d : Decimal). d .from) (c .before .of .ensures)))
+    (λ c. omega (arith, ap (λ (d : Decimal). d .from) (c .before .before .of .ensures)))
+    (λ c. let l : length (c .before .before .of .result .digits) ≡ 20 = search needs in omega arith) (λ c κs. search needs)
+    (λ c. search needs))

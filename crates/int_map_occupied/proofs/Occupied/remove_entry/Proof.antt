@@ -4,15 +4,11 @@ use borrow.Author.Needs.{needs}
 use Rattle.int_map_occupied.proofs.Occupied.remove_entry.Statement.{statement}
 use Rattle.int_map_occupied.proofs.Occupied.remove_entry.Tie as tie
 
-returns : tie.Need-returns
-returns c = remove-entry-done _ _ _ _ _ (c .before .before .before .before .before .before .before .before .before .remove .ensures) (c .before .taken .given .1)
-
-returns-2 : tie.Need-returns-2
-returns-2 c = remove-entry-refused _ _ _ _ _ (c .before .before .before .before .before .before .before .before .before .remove .ensures) (c .before .taken2 .given .1)
-
 pub remove-entry-spec : {M : Type 1} → statement M
 remove-entry-spec =
     tie.close
     (tie.spec
-    (λ c κs. search needs) (λ c. search needs) (λ c. search needs) (λ c. search needs) (λ c. search needs) (λ c. search needs) returns
-    (λ c. search needs) (λ c. search needs) (λ c. search needs) returns-2)
+    (λ c κs. search needs) (λ c. search needs) (λ c. search needs) (λ c. search needs) (λ c. search needs) (λ c. search needs)
+    (λ c. remove-entry-done _ _ _ _ _ (c .before .before .before .before .before .before .before .before .before .remove .ensures) (c .before .taken .given .1))
+    (λ c. search needs) (λ c. search needs) (λ c. search needs)
+    (λ c. remove-entry-refused _ _ _ _ _ (c .before .before .before .before .before .before .before .before .before .remove .ensures) (c .before .taken2 .given .1)))

@@ -4,15 +4,10 @@ use borrow.Author.Needs.{needs}
 use Rattle.lines.proofs.Reading.spaced.Statement.{statement}
 use Rattle.lines.proofs.Reading.spaced.Tie as tie
 
-returns-2 : tie.Need-returns-2
-returns-2 c = rw (c .before .self .given .1)
-
-returns-3 : tie.Need-returns-3
-returns-3 c = rw (c .before .self2 .given .1)
-
 pub spaced-spec : {M : Type 1} → statement M
 spaced-spec =
     tie.close
     (tie.spec
     (λ c. search needs) (λ c. search needs) (λ c. search needs) (λ c. search needs) (λ c. search needs) (λ c. search needs)
-    (λ c. search needs) returns-2 returns-3 (λ c. search needs) (λ c. search needs) (λ c. search needs))
+    (λ c. search needs) (λ c. rw (c .before .self .given .1)) (λ c. rw (c .before .self2 .given .1)) (λ c. search needs) (λ c. search needs)
+    (λ c. search needs))

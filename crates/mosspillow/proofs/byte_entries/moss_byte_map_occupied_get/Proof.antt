@@ -4,9 +4,6 @@ use borrow.Author.Needs.{needs}
 use Rattle.mosspillow.proofs.byte_entries.moss_byte_map_occupied_get.Statement.{statement}
 use Rattle.mosspillow.proofs.byte_entries.moss_byte_map_occupied_get.Tie as tie
 
-returns : tie.Need-returns
-returns c = c .held-numbers .ensures ∙ c .before .get .ensures
-
 pub moss-byte-map-occupied-get-spec : {M : Type 1} → statement M
 moss-byte-map-occupied-get-spec = tie.close (tie.spec
-    (λ c κs. search needs) (λ c κs. search needs) returns)
+    (λ c κs. search needs) (λ c κs. search needs) (λ c. c .held-numbers .ensures ∙ c .before .get .ensures))

@@ -4,12 +4,8 @@ use borrow.Author.Needs.{needs}
 use Rattle.mosspillow.proofs.byte_entries.moss_byte_map_occupied_remove_entry.Statement.{statement}
 use Rattle.mosspillow.proofs.byte_entries.moss_byte_map_occupied_remove_entry.Tie as tie
 
-returns : tie.Need-returns
-returns c = handed (c .taken-numbers .ensures) (c .before .before .before .before .before .before .before .before .before .before .before .remove-entry .ensures)
-
 pub moss-byte-map-occupied-remove-entry-spec : {M : Type 1} → statement M
-moss-byte-map-occupied-remove-entry-spec =
-    tie.close
-    (tie.spec
+moss-byte-map-occupied-remove-entry-spec = tie.close (tie.spec
     (λ c κs. search needs) (λ c κs. search needs) (λ c. search needs) (λ c. search needs) (λ c. search needs) (λ c. search needs)
-    (λ c. search needs) returns)
+    (λ c. search needs)
+    (λ c. handed (c .taken-numbers .ensures) (c .before .before .before .before .before .before .before .before .before .before .before .remove-entry .ensures)))

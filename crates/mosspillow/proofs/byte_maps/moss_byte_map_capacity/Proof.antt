@@ -4,10 +4,6 @@ use borrow.Author.Needs.{needs}
 use Rattle.mosspillow.proofs.byte_maps.moss_byte_map_capacity.Statement.{statement}
 use Rattle.mosspillow.proofs.byte_maps.moss_byte_map_capacity.Tie as tie
 
-returns : tie.Need-returns
-returns c = c .counted-numbers .ensures ∙ c .before .capacity .ensures
-
 pub moss-byte-map-capacity-spec : {M : Type 1} → statement M
-moss-byte-map-capacity-spec =
-    tie.close (tie.spec
-    (λ c κs. search needs) (λ c κs. search needs) returns)
+moss-byte-map-capacity-spec = tie.close (tie.spec
+    (λ c κs. search needs) (λ c κs. search needs) (λ c. c .counted-numbers .ensures ∙ c .before .capacity .ensures))

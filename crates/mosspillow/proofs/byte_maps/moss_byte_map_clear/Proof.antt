@@ -4,12 +4,8 @@ use borrow.Author.Needs.{needs}
 use Rattle.mosspillow.proofs.byte_maps.moss_byte_map_clear.Statement.{statement}
 use Rattle.mosspillow.proofs.byte_maps.moss_byte_map_clear.Tie as tie
 
-returns : tie.Need-returns
-returns c = handed (c .outcome-numbers .ensures) (c .before .before .before .before .before .before .before .before .before .before .before .clear .ensures)
-
 pub moss-byte-map-clear-spec : {M : Type 1} → statement M
-moss-byte-map-clear-spec =
-    tie.close
-    (tie.spec
+moss-byte-map-clear-spec = tie.close (tie.spec
     (λ c κs. search needs) (λ c κs. search needs) (λ c. search needs) (λ c. search needs) (λ c. search needs) (λ c. search needs)
-    (λ c. search needs) returns)
+    (λ c. search needs)
+    (λ c. handed (c .outcome-numbers .ensures) (c .before .before .before .before .before .before .before .before .before .before .before .clear .ensures)))

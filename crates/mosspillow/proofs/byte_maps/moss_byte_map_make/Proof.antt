@@ -4,12 +4,8 @@ use borrow.Author.Needs.{needs}
 use Rattle.mosspillow.proofs.byte_maps.moss_byte_map_make.Statement.{statement}
 use Rattle.mosspillow.proofs.byte_maps.moss_byte_map_make.Tie as tie
 
-returns : tie.Need-returns
-returns c = handed (c .outcome-numbers .ensures) (c .before .before .before .before .before .before .before .before .before .before .before .make .ensures)
-
 pub moss-byte-map-make-spec : {M : Type 1} → statement M
-moss-byte-map-make-spec =
-    tie.close
-    (tie.spec
+moss-byte-map-make-spec = tie.close (tie.spec
     (λ c κs. search needs) (λ c κs. search needs) (λ c. search needs) (λ c. search needs) (λ c. search needs) (λ c. search needs)
-    (λ c. search needs) returns)
+    (λ c. search needs)
+    (λ c. handed (c .outcome-numbers .ensures) (c .before .before .before .before .before .before .before .before .before .before .before .make .ensures)))

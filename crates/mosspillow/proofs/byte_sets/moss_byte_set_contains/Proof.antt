@@ -4,10 +4,6 @@ use borrow.Author.Needs.{needs}
 use Rattle.mosspillow.proofs.byte_sets.moss_byte_set_contains.Statement.{statement}
 use Rattle.mosspillow.proofs.byte_sets.moss_byte_set_contains.Tie as tie
 
-returns : tie.Need-returns
-returns c = c .contained-numbers .ensures ∙ c .before .contains .ensures
-
 pub moss-byte-set-contains-spec : {M : Type 1} → statement M
-moss-byte-set-contains-spec =
-    tie.close (tie.spec
-    (λ c κs. search needs) (λ c κs. search needs) returns)
+moss-byte-set-contains-spec = tie.close (tie.spec
+    (λ c κs. search needs) (λ c κs. search needs) (λ c. c .contained-numbers .ensures ∙ c .before .contains .ensures))

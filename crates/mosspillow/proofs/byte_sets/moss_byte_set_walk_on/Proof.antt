@@ -5,9 +5,6 @@ use Rattle.kinds.proofs.Moved.{moved}
 use Rattle.mosspillow.proofs.byte_sets.moss_byte_set_walk_on.Statement.{statement}
 use Rattle.mosspillow.proofs.byte_sets.moss_byte_set_walk_on.Tie as tie
 
-returns : tie.Need-returns
-returns c = moved (c .moss-byte-set-step .ensures) refl
-
 pub moss-byte-set-walk-on-spec : {M : Type 1} → statement M
 moss-byte-set-walk-on-spec = tie.close (tie.spec
-    (λ c κs. search needs) returns)
+    (λ c κs. search needs) (λ c. moved (c .moss-byte-set-step .ensures) refl))

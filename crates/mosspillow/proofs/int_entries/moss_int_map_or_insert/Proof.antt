@@ -6,11 +6,7 @@ use borrow.Author.Needs.{needs}
 use Rattle.mosspillow.proofs.int_entries.moss_int_map_or_insert.Statement.{statement}
 use Rattle.mosspillow.proofs.int_entries.moss_int_map_or_insert.Tie as tie
 
-returns : tie.Need-returns
-returns c = handed-by (orInsertOf maps) (c .in-slot-numbers .ensures) (c .before .before .before .before .before .before .before .or-insert .ensures) (c .before .before .before .before .before .before .before .before .before .before .before .entry-by-case .ensures _)
-
 pub moss-int-map-or-insert-spec : {M : Type 1} → statement M
-moss-int-map-or-insert-spec =
-    tie.close
-    (tie.spec
-    (λ c κs. search needs) (λ c κs. search needs) (λ c κs. search needs) (λ c. search needs) (λ c. search needs) (λ c. search needs) returns)
+moss-int-map-or-insert-spec = tie.close (tie.spec
+    (λ c κs. search needs) (λ c κs. search needs) (λ c κs. search needs) (λ c. search needs) (λ c. search needs) (λ c. search needs)
+    (λ c. handed-by (orInsertOf maps) (c .in-slot-numbers .ensures) (c .before .before .before .before .before .before .before .or-insert .ensures) (c .before .before .before .before .before .before .before .before .before .before .before .entry-by-case .ensures _)))

@@ -4,9 +4,6 @@ use borrow.Author.Needs.{needs}
 use Rattle.mosspillow.proofs.int_maps.moss_int_map_get.Statement.{statement}
 use Rattle.mosspillow.proofs.int_maps.moss_int_map_get.Tie as tie
 
-returns : tie.Need-returns
-returns c = c .got-numbers .ensures ∙ c .before .get .ensures
-
 pub moss-int-map-get-spec : {M : Type 1} → statement M
 moss-int-map-get-spec = tie.close (tie.spec
-    (λ c κs. search needs) (λ c κs. search needs) returns)
+    (λ c κs. search needs) (λ c κs. search needs) (λ c. c .got-numbers .ensures ∙ c .before .get .ensures))

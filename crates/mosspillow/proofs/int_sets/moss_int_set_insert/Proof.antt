@@ -4,10 +4,7 @@ use borrow.Author.Needs.{needs}
 use Rattle.mosspillow.proofs.int_sets.moss_int_set_insert.Statement.{statement}
 use Rattle.mosspillow.proofs.int_sets.moss_int_set_insert.Tie as tie
 
-returns : tie.Need-returns
-returns c = handed (c .added-numbers .ensures) (c .before .before .before .before .before .insert .ensures)
-
 pub moss-int-set-insert-spec : {M : Type 1} → statement M
-moss-int-set-insert-spec =
-    tie.close (tie.spec
-    (λ c κs. search needs) (λ c κs. search needs) (λ c. search needs) (λ c. search needs) returns)
+moss-int-set-insert-spec = tie.close (tie.spec
+    (λ c κs. search needs) (λ c κs. search needs) (λ c. search needs) (λ c. search needs)
+    (λ c. handed (c .added-numbers .ensures) (c .before .before .before .before .before .insert .ensures)))

@@ -4,10 +4,7 @@ use borrow.Author.Needs.{needs}
 use Rattle.mosspillow.proofs.int_sets.moss_int_set_remove.Statement.{statement}
 use Rattle.mosspillow.proofs.int_sets.moss_int_set_remove.Tie as tie
 
-returns : tie.Need-returns
-returns c = handed (c .dropped-numbers .ensures) (c .before .before .before .before .before .remove .ensures)
-
 pub moss-int-set-remove-spec : {M : Type 1} → statement M
-moss-int-set-remove-spec =
-    tie.close (tie.spec
-    (λ c κs. search needs) (λ c κs. search needs) (λ c. search needs) (λ c. search needs) returns)
+moss-int-set-remove-spec = tie.close (tie.spec
+    (λ c κs. search needs) (λ c κs. search needs) (λ c. search needs) (λ c. search needs)
+    (λ c. handed (c .dropped-numbers .ensures) (c .before .before .before .before .before .remove .ensures)))

@@ -1,0 +1,69 @@
+// A Rust program that links the C library: the two calls that it makes, declared as the header does, and a table over arrays of its own.
+
+/// An answer, as `moss_answer` of include/mosspillow.h.
+#[repr(C)]
+struct Answer {
+    refusal: u64,
+    which: u64,
+    key: u64,
+    value: u64,
+    slot: u64,
+    examined: u64,
+    walk: u64,
+    offset: u64,
+    length: u64,
+}
+
+const FOUND: u64 = 6;
+
+extern "C" {
+    fn moss_int_map_insert(
+        marks: *mut u8, marks_count: usize, keys: *mut u64, keys_count: usize, values: *mut u64, values_count: usize, key: u64, value: u64,
+    ) -> Answer;
+    fn moss_int_map_get(
+        marks: *const u8, marks_count: usize, keys: *const u64, keys_count: usize, values: *const u64, values_count: usize, key: u64,
+    ) -> Answer;
+}
+
+/// A table of S slots; all zeros it is empty.
+struct IntMap<const S: usize> {
+    marks: [u8; S],
+    keys: [u64; S],
+    values: [u64; S],
+}
+
+impl<const S: usize> IntMap<S> {
+    fn new() -> Self {
+        IntMap { marks: [0; S], keys: [0; S], values: [0; S] }
+    }
+
+    /// The slot of the key, or the number of the refusal.
+    fn insert(&mut self, key: u64, value: u64) -> Result<u64, u64> {
+        // The arrays are this table's own, of S elements each, and do not overlap.
+        let answer = unsafe {
+            moss_int_map_insert(self.marks.as_mut_ptr(), S, self.keys.as_mut_ptr(), S, self.values.as_mut_ptr(), S, key, value)
+        };
+        if answer.refusal == 0 { Ok(answer.slot) } else { Err(answer.refusal) }
+    }
+
+    /// The value of the key, if it is there, or the number of the refusal.
+    fn get(&self, key: u64) -> Result<Option<u64>, u64> {
+        let answer = unsafe { moss_int_map_get(self.marks.as_ptr(), S, self.keys.as_ptr(), S, self.values.as_ptr(), S, key) };
+        match answer.refusal {
+            0 => Ok((answer.which == FOUND).then_some(answer.value)),
+            refusal => Err(refusal),
+        }
+    }
+}
+
+fn main() {
+    let mut table = IntMap::<4>::new();
+    for key in [0, 4, 8, 12, 16] {
+        println!("insert {key}: {:?}", table.insert(key, key + 10));
+    }
+    for key in [4, 5] {
+        println!("get {key}: {:?}", table.get(key));
+    }
+    let empty = IntMap::<0>::new();
+    println!("no slots: {:?}", empty.get(0));
+}
