@@ -3,7 +3,7 @@
  * of all lent memory, or with `--memory` the arrays that the call changed. Answers, digests and memory found in the input are
  * ignored. Lines `digest BYTES HEX16` and `home BYTES COUNT ANSWER` may stand between scenarios.
  * Every lent array ends at a page that may not be touched, and the bytes before it are looked at after each call.
- * Status 2: the file is malformed. Status 3: an answer has a number that its case does not have, or memory beside an array changed. */
+ * Status 2: the file is malformed, or has a call that there is not. Status 3: an answer has a number that its case does not have, or memory beside an array changed. */
 #define _DEFAULT_SOURCE
 #include "kinds.h"
 
@@ -659,14 +659,16 @@ static void play(const struct kind *kind, struct table tables[2], bool memory)
         print_memory(kind, tables);
 }
 
-/* `scenario ID KIND after 0`: the kind. */
+/* `scenario ID KIND after N`: the kind. Nothing is decided by the number N. */
 static const struct kind *read_kind(void)
 {
-    char *rest = line, *word = cut(&rest);
+    char *rest = line, *word = cut(&rest), *after;
     if (strcmp(word, "scenario") != 0 || cut(&rest) == NULL || (word = cut(&rest)) == NULL)
-        stop(MALFORMED, "expected scenario ID KIND after 0");
-    if (rest == NULL || strcmp(rest, "after 0") != 0)
-        stop(MALFORMED, "expected after 0");
+        stop(MALFORMED, "expected scenario ID KIND after N");
+    if ((after = cut(&rest)) == NULL || strcmp(after, "after") != 0)
+        stop(MALFORMED, "expected after N");
+    number_of(cut(&rest), UINT64_MAX);
+    no_more(rest);
     for (size_t i = 0; i < sizeof kinds / sizeof kinds[0]; i++)
         if (strcmp(word, kinds[i].name) == 0)
             return &kinds[i];
