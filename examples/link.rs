@@ -1,7 +1,10 @@
-// A Rust program that links the C library: the two calls that it makes, declared as the header does, and a table over arrays of its own.
+// A Rust program that links the C library: the two calls that it makes, and a table over arrays of its own. They are declared so that they
+// are the same call on every processor: counts of 64 bits, and the answer through a pointer, which is what a struct of this size comes by on
+// x86-64 too. Only the names differ.
 
 /// An answer, as `moss_answer` of include/mosspillow.h.
 #[repr(C)]
+#[derive(Default)]
 struct Answer {
     refusal: u64,
     which: u64,
@@ -17,12 +20,16 @@ struct Answer {
 const FOUND: u64 = 6;
 
 extern "C" {
+    #[cfg_attr(not(target_arch = "x86_64"), link_name = "moss_int_map_insert_wide")]
     fn moss_int_map_insert(
-        marks: *mut u8, marks_count: usize, keys: *mut u64, keys_count: usize, values: *mut u64, values_count: usize, key: u64, value: u64,
-    ) -> Answer;
+        answer: *mut Answer, marks: *mut u8, marks_count: u64, keys: *mut u64, keys_count: u64, values: *mut u64, values_count: u64, key: u64,
+        value: u64,
+    ) -> *mut Answer;
+    #[cfg_attr(not(target_arch = "x86_64"), link_name = "moss_int_map_get_wide")]
     fn moss_int_map_get(
-        marks: *const u8, marks_count: usize, keys: *const u64, keys_count: usize, values: *const u64, values_count: usize, key: u64,
-    ) -> Answer;
+        answer: *mut Answer, marks: *const u8, marks_count: u64, keys: *const u64, keys_count: u64, values: *const u64, values_count: u64,
+        key: u64,
+    ) -> *mut Answer;
 }
 
 /// A table of S slots; all zeros it is empty.
@@ -39,16 +46,18 @@ impl<const S: usize> IntMap<S> {
 
     /// The slot of the key, or the number of the refusal.
     fn insert(&mut self, key: u64, value: u64) -> Result<u64, u64> {
+        let (mut answer, count) = (Answer::default(), S as u64);
+        let (marks, keys, values) = (self.marks.as_mut_ptr(), self.keys.as_mut_ptr(), self.values.as_mut_ptr());
         // The arrays are this table's own, of S elements each, and do not overlap.
-        let answer = unsafe {
-            moss_int_map_insert(self.marks.as_mut_ptr(), S, self.keys.as_mut_ptr(), S, self.values.as_mut_ptr(), S, key, value)
-        };
+        unsafe { moss_int_map_insert(&mut answer, marks, count, keys, count, values, count, key, value) };
         if answer.refusal == 0 { Ok(answer.slot) } else { Err(answer.refusal) }
     }
 
     /// The value of the key, if it is there, or the number of the refusal.
     fn get(&self, key: u64) -> Result<Option<u64>, u64> {
-        let answer = unsafe { moss_int_map_get(self.marks.as_ptr(), S, self.keys.as_ptr(), S, self.values.as_ptr(), S, key) };
+        let (mut answer, count) = (Answer::default(), S as u64);
+        let (marks, keys, values) = (self.marks.as_ptr(), self.keys.as_ptr(), self.values.as_ptr());
+        unsafe { moss_int_map_get(&mut answer, marks, count, keys, count, values, count, key) };
         match answer.refusal {
             0 => Ok((answer.which == FOUND).then_some(answer.value)),
             refusal => Err(refusal),

@@ -1,5 +1,6 @@
 /* Mosspillow for C and C++: maps and sets over lent slot arrays.
- * Link with libmosspillow.a (x86-64), which `bash tools/library` builds.
+ * Link with the archive libmosspillow.a for your processor, which `bash tools/library` builds: x86-64, AArch64, ARMv7, Cortex-M0, M3
+ * and M4, or RV32.
  *
  * A call takes each lent array as a pointer and a count of elements. The counts must be true and the pointers valid for them. The
  * arrays lent to one call must not overlap, those of the two tables of union and copy and the key's bytes included. A null pointer is
@@ -17,6 +18,27 @@
 #define MOSS_VERSION_MINOR 0
 #define MOSS_VERSION_PATCH 0
 #define MOSS_VERSION "1.0.0"
+
+/* The processors that there are archives for, all of them little-endian. On x86-64 a call is the archive's own function. Elsewhere that
+ * function has `_wide` behind its name, counts of 64 bits, and its answer through a pointer, so that it is called alike whatever rules
+ * for structs a processor has; the call is then an inline function at the end of this header. */
+#if defined(__ARM_BIG_ENDIAN) || (defined(__BYTE_ORDER__) && __BYTE_ORDER__ != __ORDER_LITTLE_ENDIAN__)
+#define MOSS_ARCHIVE 0
+#define MOSS_CALL
+#elif defined(__x86_64__) && !defined(__ILP32__)
+#define MOSS_ARCHIVE 1
+#define MOSS_CALL
+#elif (defined(__aarch64__) && !defined(__ILP32__)) || (defined(__arm__) && __ARM_ARCH >= 6) || (defined(__riscv) && __riscv_xlen == 32)
+#define MOSS_ARCHIVE 1
+#define MOSS_WIDE
+#define MOSS_CALL static inline
+#else
+#define MOSS_ARCHIVE 0
+#define MOSS_CALL
+#endif
+
+/* For any other processor, or one whose bytes are in the other order, the header does not compile. */
+typedef char moss_no_archive_for_this_processor[MOSS_ARCHIVE && sizeof(size_t) <= sizeof(uint64_t) ? 1 : -1];
 
 #ifdef __cplusplus
 #define MOSS_RESTRICT
@@ -128,12 +150,12 @@ static inline const char *moss_case_name(uint64_t which)
 }
 
 /* The digest (FNV-1a, 64 bits) of `length` bytes, of any length. */
-uint64_t moss_digest(const uint8_t *bytes, size_t length);
+MOSS_CALL uint64_t moss_digest(const uint8_t *bytes, size_t length);
 
 /* The home slot of a byte key among `slots` slots: its digest modulo `slots`.
  * Where it is refused, 65536 plus the number of the refusal: 65537 where `slots` is 0 or above 4096, and else
  * 65538 where `length` is above 255. */
-uint64_t moss_home(const uint8_t *bytes, size_t length, uint64_t slots);
+MOSS_CALL uint64_t moss_home(const uint8_t *bytes, size_t length, uint64_t slots);
 
 /* The integer map: marks, u64 keys and u64 values. A handle is the slot that an entry answers, with the key given again; where
  * `which` is asked it is the answer's case. A number that is neither MOSS_OCCUPIED nor MOSS_VACANT counts as a vacant handle that is
@@ -141,56 +163,56 @@ uint64_t moss_home(const uint8_t *bytes, size_t length, uint64_t slots);
 
 /* from the list: declarations of int_map */
 /* Makes an empty map of the lent arrays: every mark and word becomes 0. MOSS_DONE. Refuses 1. */
-MOSS_CHECK moss_answer moss_int_map_make(uint8_t *MOSS_RESTRICT marks, size_t marks_count,
+MOSS_CHECK MOSS_CALL moss_answer moss_int_map_make(uint8_t *MOSS_RESTRICT marks, size_t marks_count,
     uint64_t *MOSS_RESTRICT keys, size_t keys_count, uint64_t *MOSS_RESTRICT values, size_t values_count);
 
 /* Empties a map, as make does. MOSS_DONE. Refuses 1. */
-MOSS_CHECK moss_answer moss_int_map_clear(uint8_t *MOSS_RESTRICT marks, size_t marks_count,
+MOSS_CHECK MOSS_CALL moss_answer moss_int_map_clear(uint8_t *MOSS_RESTRICT marks, size_t marks_count,
     uint64_t *MOSS_RESTRICT keys, size_t keys_count, uint64_t *MOSS_RESTRICT values, size_t values_count);
 
 /* The number of slots. MOSS_COUNT with value. Refuses 1. */
-MOSS_CHECK moss_answer moss_int_map_capacity(const uint8_t *MOSS_RESTRICT marks, size_t marks_count,
+MOSS_CHECK MOSS_CALL moss_answer moss_int_map_capacity(const uint8_t *MOSS_RESTRICT marks, size_t marks_count,
     const uint64_t *MOSS_RESTRICT keys, size_t keys_count, const uint64_t *MOSS_RESTRICT values, size_t values_count);
 
 /* The number of live slots, which on a sound table is that of its keys. MOSS_COUNT with value. Refuses 1, 5. */
-MOSS_CHECK moss_answer moss_int_map_len(const uint8_t *MOSS_RESTRICT marks, size_t marks_count,
+MOSS_CHECK MOSS_CALL moss_answer moss_int_map_len(const uint8_t *MOSS_RESTRICT marks, size_t marks_count,
     const uint64_t *MOSS_RESTRICT keys, size_t keys_count, const uint64_t *MOSS_RESTRICT values, size_t values_count);
 
 /* Whether no slot is live. MOSS_EMPTY or MOSS_HOLDS. Refuses 1, 5. */
-MOSS_CHECK moss_answer moss_int_map_is_empty(const uint8_t *MOSS_RESTRICT marks, size_t marks_count,
+MOSS_CHECK MOSS_CALL moss_answer moss_int_map_is_empty(const uint8_t *MOSS_RESTRICT marks, size_t marks_count,
     const uint64_t *MOSS_RESTRICT keys, size_t keys_count, const uint64_t *MOSS_RESTRICT values, size_t values_count);
 
 /* Whether `asked` slots or more are not live. MOSS_ROOM. Refuses 1, 5, 7. */
-MOSS_CHECK moss_answer moss_int_map_reserve(const uint8_t *MOSS_RESTRICT marks, size_t marks_count,
+MOSS_CHECK MOSS_CALL moss_answer moss_int_map_reserve(const uint8_t *MOSS_RESTRICT marks, size_t marks_count,
     const uint64_t *MOSS_RESTRICT keys, size_t keys_count, const uint64_t *MOSS_RESTRICT values, size_t values_count,
     uint64_t asked);
 
 /* The value of a key. MOSS_FOUND with value, slot and examined, or MOSS_ABSENT with examined. Refuses 1, 5. */
-MOSS_CHECK moss_answer moss_int_map_get(const uint8_t *MOSS_RESTRICT marks, size_t marks_count,
+MOSS_CHECK MOSS_CALL moss_answer moss_int_map_get(const uint8_t *MOSS_RESTRICT marks, size_t marks_count,
     const uint64_t *MOSS_RESTRICT keys, size_t keys_count, const uint64_t *MOSS_RESTRICT values, size_t values_count, uint64_t key);
 
 /* Whether a key is there. MOSS_PRESENT or MOSS_ABSENT with examined. Refuses 1, 5. */
-MOSS_CHECK moss_answer moss_int_map_contains_key(const uint8_t *MOSS_RESTRICT marks, size_t marks_count,
+MOSS_CHECK MOSS_CALL moss_answer moss_int_map_contains_key(const uint8_t *MOSS_RESTRICT marks, size_t marks_count,
     const uint64_t *MOSS_RESTRICT keys, size_t keys_count, const uint64_t *MOSS_RESTRICT values, size_t values_count, uint64_t key);
 
 /* Gives a key its value. MOSS_FRESH with slot and examined, or MOSS_REPLACED with the old value too. Refuses 1, 5, 7. */
-MOSS_CHECK moss_answer moss_int_map_insert(uint8_t *MOSS_RESTRICT marks, size_t marks_count,
+MOSS_CHECK MOSS_CALL moss_answer moss_int_map_insert(uint8_t *MOSS_RESTRICT marks, size_t marks_count,
     uint64_t *MOSS_RESTRICT keys, size_t keys_count, uint64_t *MOSS_RESTRICT values, size_t values_count, uint64_t key,
     uint64_t value);
 
 /* Takes a key out. MOSS_REMOVED with its value, slot and examined, or MOSS_ABSENT with examined. Refuses 1, 5. */
-MOSS_CHECK moss_answer moss_int_map_remove(uint8_t *MOSS_RESTRICT marks, size_t marks_count,
+MOSS_CHECK MOSS_CALL moss_answer moss_int_map_remove(uint8_t *MOSS_RESTRICT marks, size_t marks_count,
     uint64_t *MOSS_RESTRICT keys, size_t keys_count, uint64_t *MOSS_RESTRICT values, size_t values_count, uint64_t key);
 
 /* Makes the map of the to_ arrays equal to the other in every slot; both have the same sizes. MOSS_DONE. Refuses 1. */
-MOSS_CHECK moss_answer moss_int_map_copy(uint8_t *MOSS_RESTRICT to_marks, size_t to_marks_count,
+MOSS_CHECK MOSS_CALL moss_answer moss_int_map_copy(uint8_t *MOSS_RESTRICT to_marks, size_t to_marks_count,
     uint64_t *MOSS_RESTRICT to_keys, size_t to_keys_count, uint64_t *MOSS_RESTRICT to_values, size_t to_values_count,
     const uint8_t *MOSS_RESTRICT marks, size_t marks_count, const uint64_t *MOSS_RESTRICT keys, size_t keys_count,
     const uint64_t *MOSS_RESTRICT values, size_t values_count);
 
 /* Puts the right's pairs into the left (marks, keys, values), all or none; the right may have another slot count. MOSS_DONE.
  * Refuses 1, 5, 7. */
-MOSS_CHECK moss_answer moss_int_map_union_prefer_right(uint8_t *MOSS_RESTRICT marks, size_t marks_count,
+MOSS_CHECK MOSS_CALL moss_answer moss_int_map_union_prefer_right(uint8_t *MOSS_RESTRICT marks, size_t marks_count,
     uint64_t *MOSS_RESTRICT keys, size_t keys_count, uint64_t *MOSS_RESTRICT values, size_t values_count,
     const uint8_t *MOSS_RESTRICT right_marks, size_t right_marks_count,
     const uint64_t *MOSS_RESTRICT right_keys, size_t right_keys_count,
@@ -198,58 +220,58 @@ MOSS_CHECK moss_answer moss_int_map_union_prefer_right(uint8_t *MOSS_RESTRICT ma
 
 /* Where a key stands or would go. MOSS_OCCUPIED with slot, value and examined, or MOSS_VACANT with slot and examined. Refuses 1,
  * 5, 7. */
-MOSS_CHECK moss_answer moss_int_map_entry(const uint8_t *MOSS_RESTRICT marks, size_t marks_count,
+MOSS_CHECK MOSS_CALL moss_answer moss_int_map_entry(const uint8_t *MOSS_RESTRICT marks, size_t marks_count,
     const uint64_t *MOSS_RESTRICT keys, size_t keys_count, const uint64_t *MOSS_RESTRICT values, size_t values_count, uint64_t key);
 
 /* An occupied handle's value. MOSS_VALUE with value and slot. Refuses 1, 5, 6. */
-MOSS_CHECK moss_answer moss_int_map_occupied_get(const uint8_t *MOSS_RESTRICT marks, size_t marks_count,
+MOSS_CHECK MOSS_CALL moss_answer moss_int_map_occupied_get(const uint8_t *MOSS_RESTRICT marks, size_t marks_count,
     const uint64_t *MOSS_RESTRICT keys, size_t keys_count, const uint64_t *MOSS_RESTRICT values, size_t values_count, uint64_t slot,
     uint64_t key);
 
 /* Gives an occupied handle's slot another value. MOSS_WAS with the old value and slot. Refuses 1, 5, 6. */
-MOSS_CHECK moss_answer moss_int_map_occupied_set(uint8_t *MOSS_RESTRICT marks, size_t marks_count,
+MOSS_CHECK MOSS_CALL moss_answer moss_int_map_occupied_set(uint8_t *MOSS_RESTRICT marks, size_t marks_count,
     uint64_t *MOSS_RESTRICT keys, size_t keys_count, uint64_t *MOSS_RESTRICT values, size_t values_count, uint64_t slot,
     uint64_t key, uint64_t value);
 
 /* Frees an occupied handle's slot. MOSS_REMOVED with value. Refuses 1, 5, 6. */
-MOSS_CHECK moss_answer moss_int_map_occupied_remove(uint8_t *MOSS_RESTRICT marks, size_t marks_count,
+MOSS_CHECK MOSS_CALL moss_answer moss_int_map_occupied_remove(uint8_t *MOSS_RESTRICT marks, size_t marks_count,
     uint64_t *MOSS_RESTRICT keys, size_t keys_count, uint64_t *MOSS_RESTRICT values, size_t values_count, uint64_t slot,
     uint64_t key);
 
 /* The same, with the key told too. MOSS_REMOVED with key and value. Refuses 1, 5, 6. */
-MOSS_CHECK moss_answer moss_int_map_occupied_remove_entry(uint8_t *MOSS_RESTRICT marks, size_t marks_count,
+MOSS_CHECK MOSS_CALL moss_answer moss_int_map_occupied_remove_entry(uint8_t *MOSS_RESTRICT marks, size_t marks_count,
     uint64_t *MOSS_RESTRICT keys, size_t keys_count, uint64_t *MOSS_RESTRICT values, size_t values_count, uint64_t slot,
     uint64_t key);
 
 /* Puts the key and a value into a vacant handle's slot. MOSS_NOW with value and slot. Refuses 1, 5, 6. */
-MOSS_CHECK moss_answer moss_int_map_vacant_insert(uint8_t *MOSS_RESTRICT marks, size_t marks_count,
+MOSS_CHECK MOSS_CALL moss_answer moss_int_map_vacant_insert(uint8_t *MOSS_RESTRICT marks, size_t marks_count,
     uint64_t *MOSS_RESTRICT keys, size_t keys_count, uint64_t *MOSS_RESTRICT values, size_t values_count, uint64_t slot,
     uint64_t key, uint64_t value);
 
 /* Keeps the value of an occupied handle, or puts `value` into a vacant one's slot. MOSS_NOW with the value now there and slot.
  * Refuses 1, 5, 6. */
-MOSS_CHECK moss_answer moss_int_map_or_insert(uint8_t *MOSS_RESTRICT marks, size_t marks_count,
+MOSS_CHECK MOSS_CALL moss_answer moss_int_map_or_insert(uint8_t *MOSS_RESTRICT marks, size_t marks_count,
     uint64_t *MOSS_RESTRICT keys, size_t keys_count, uint64_t *MOSS_RESTRICT values, size_t values_count, uint64_t which,
     uint64_t slot, uint64_t key, uint64_t value);
 
 /* Gives an occupied handle's slot the value, or puts it into a vacant one's slot. MOSS_NOW with value and slot. Refuses 1, 5, 6.
  * */
-MOSS_CHECK moss_answer moss_int_map_insert_entry(uint8_t *MOSS_RESTRICT marks, size_t marks_count,
+MOSS_CHECK MOSS_CALL moss_answer moss_int_map_insert_entry(uint8_t *MOSS_RESTRICT marks, size_t marks_count,
     uint64_t *MOSS_RESTRICT keys, size_t keys_count, uint64_t *MOSS_RESTRICT values, size_t values_count, uint64_t which,
     uint64_t slot, uint64_t key, uint64_t value);
 
 /* Where a walk starts: 0. */
-uint64_t moss_int_map_walk_start(void);
+MOSS_CALL uint64_t moss_int_map_walk_start(void);
 
 /* One step of a walk over at most `budget` slots. MOSS_PAIR with key, value, walk and examined, MOSS_NOTHING with walk and
  * examined, or MOSS_WALK_DONE with walk. Refuses 1, 3, 4, 5, with the walk as it came. */
-MOSS_CHECK moss_answer moss_int_map_step(const uint8_t *MOSS_RESTRICT marks, size_t marks_count,
+MOSS_CHECK MOSS_CALL moss_answer moss_int_map_step(const uint8_t *MOSS_RESTRICT marks, size_t marks_count,
     const uint64_t *MOSS_RESTRICT keys, size_t keys_count, const uint64_t *MOSS_RESTRICT values, size_t values_count, uint64_t walk,
     uint64_t budget);
 
 /* The same step of a lent walk, which moves on in its place: afterwards it is the answer's walk. `walk` may not be NULL, nor lie
  * in a lent array. */
-MOSS_CHECK moss_answer moss_int_map_walk_on(const uint8_t *MOSS_RESTRICT marks, size_t marks_count,
+MOSS_CHECK MOSS_CALL moss_answer moss_int_map_walk_on(const uint8_t *MOSS_RESTRICT marks, size_t marks_count,
     const uint64_t *MOSS_RESTRICT keys, size_t keys_count, const uint64_t *MOSS_RESTRICT values, size_t values_count,
     uint64_t *MOSS_RESTRICT walk, uint64_t budget);
 /* end of declarations of int_map */
@@ -258,61 +280,61 @@ MOSS_CHECK moss_answer moss_int_map_walk_on(const uint8_t *MOSS_RESTRICT marks, 
 
 /* from the list: declarations of int_set */
 /* Makes an empty set of the lent arrays: every mark and word becomes 0. MOSS_DONE. Refuses 1. */
-MOSS_CHECK moss_answer moss_int_set_make(uint8_t *MOSS_RESTRICT marks, size_t marks_count,
+MOSS_CHECK MOSS_CALL moss_answer moss_int_set_make(uint8_t *MOSS_RESTRICT marks, size_t marks_count,
     uint64_t *MOSS_RESTRICT keys, size_t keys_count);
 
 /* Empties a set, as make does. MOSS_DONE. Refuses 1. */
-MOSS_CHECK moss_answer moss_int_set_clear(uint8_t *MOSS_RESTRICT marks, size_t marks_count,
+MOSS_CHECK MOSS_CALL moss_answer moss_int_set_clear(uint8_t *MOSS_RESTRICT marks, size_t marks_count,
     uint64_t *MOSS_RESTRICT keys, size_t keys_count);
 
 /* The number of slots. MOSS_COUNT with value. Refuses 1. */
-MOSS_CHECK moss_answer moss_int_set_capacity(const uint8_t *MOSS_RESTRICT marks, size_t marks_count,
+MOSS_CHECK MOSS_CALL moss_answer moss_int_set_capacity(const uint8_t *MOSS_RESTRICT marks, size_t marks_count,
     const uint64_t *MOSS_RESTRICT keys, size_t keys_count);
 
 /* The number of live slots, which on a sound table is that of its keys. MOSS_COUNT with value. Refuses 1, 5. */
-MOSS_CHECK moss_answer moss_int_set_len(const uint8_t *MOSS_RESTRICT marks, size_t marks_count,
+MOSS_CHECK MOSS_CALL moss_answer moss_int_set_len(const uint8_t *MOSS_RESTRICT marks, size_t marks_count,
     const uint64_t *MOSS_RESTRICT keys, size_t keys_count);
 
 /* Whether no slot is live. MOSS_EMPTY or MOSS_HOLDS. Refuses 1, 5. */
-MOSS_CHECK moss_answer moss_int_set_is_empty(const uint8_t *MOSS_RESTRICT marks, size_t marks_count,
+MOSS_CHECK MOSS_CALL moss_answer moss_int_set_is_empty(const uint8_t *MOSS_RESTRICT marks, size_t marks_count,
     const uint64_t *MOSS_RESTRICT keys, size_t keys_count);
 
 /* Whether `asked` slots or more are not live. MOSS_ROOM. Refuses 1, 5, 7. */
-MOSS_CHECK moss_answer moss_int_set_reserve(const uint8_t *MOSS_RESTRICT marks, size_t marks_count,
+MOSS_CHECK MOSS_CALL moss_answer moss_int_set_reserve(const uint8_t *MOSS_RESTRICT marks, size_t marks_count,
     const uint64_t *MOSS_RESTRICT keys, size_t keys_count, uint64_t asked);
 
 /* The key itself. MOSS_FOUND with key, slot and examined, or MOSS_ABSENT with examined. Refuses 1, 5. */
-MOSS_CHECK moss_answer moss_int_set_get(const uint8_t *MOSS_RESTRICT marks, size_t marks_count,
+MOSS_CHECK MOSS_CALL moss_answer moss_int_set_get(const uint8_t *MOSS_RESTRICT marks, size_t marks_count,
     const uint64_t *MOSS_RESTRICT keys, size_t keys_count, uint64_t key);
 
 /* Whether a key is there. MOSS_PRESENT or MOSS_ABSENT with examined. Refuses 1, 5. */
-MOSS_CHECK moss_answer moss_int_set_contains(const uint8_t *MOSS_RESTRICT marks, size_t marks_count,
+MOSS_CHECK MOSS_CALL moss_answer moss_int_set_contains(const uint8_t *MOSS_RESTRICT marks, size_t marks_count,
     const uint64_t *MOSS_RESTRICT keys, size_t keys_count, uint64_t key);
 
 /* Puts a key in. MOSS_FRESH, or MOSS_REPLACED where it was there already, with slot and examined. Refuses 1, 5, 7. */
-MOSS_CHECK moss_answer moss_int_set_insert(uint8_t *MOSS_RESTRICT marks, size_t marks_count,
+MOSS_CHECK MOSS_CALL moss_answer moss_int_set_insert(uint8_t *MOSS_RESTRICT marks, size_t marks_count,
     uint64_t *MOSS_RESTRICT keys, size_t keys_count, uint64_t key);
 
 /* Takes a key out. MOSS_REMOVED with slot and examined, or MOSS_ABSENT with examined. Refuses 1, 5. */
-MOSS_CHECK moss_answer moss_int_set_remove(uint8_t *MOSS_RESTRICT marks, size_t marks_count,
+MOSS_CHECK MOSS_CALL moss_answer moss_int_set_remove(uint8_t *MOSS_RESTRICT marks, size_t marks_count,
     uint64_t *MOSS_RESTRICT keys, size_t keys_count, uint64_t key);
 
 /* Makes the set of the to_ arrays equal to the other in every slot; both have the same sizes. MOSS_DONE. Refuses 1. */
-MOSS_CHECK moss_answer moss_int_set_copy(uint8_t *MOSS_RESTRICT to_marks, size_t to_marks_count,
+MOSS_CHECK MOSS_CALL moss_answer moss_int_set_copy(uint8_t *MOSS_RESTRICT to_marks, size_t to_marks_count,
     uint64_t *MOSS_RESTRICT to_keys, size_t to_keys_count, const uint8_t *MOSS_RESTRICT marks, size_t marks_count,
     const uint64_t *MOSS_RESTRICT keys, size_t keys_count);
 
 /* Where a walk starts: 0. */
-uint64_t moss_int_set_walk_start(void);
+MOSS_CALL uint64_t moss_int_set_walk_start(void);
 
 /* One step of a walk over at most `budget` slots. MOSS_PAIR with key, walk and examined, MOSS_NOTHING with walk and examined, or
  * MOSS_WALK_DONE with walk. Refuses 1, 3, 4, 5, with the walk as it came. */
-MOSS_CHECK moss_answer moss_int_set_step(const uint8_t *MOSS_RESTRICT marks, size_t marks_count,
+MOSS_CHECK MOSS_CALL moss_answer moss_int_set_step(const uint8_t *MOSS_RESTRICT marks, size_t marks_count,
     const uint64_t *MOSS_RESTRICT keys, size_t keys_count, uint64_t walk, uint64_t budget);
 
 /* The same step of a lent walk, which moves on in its place: afterwards it is the answer's walk. `walk` may not be NULL, nor lie
  * in a lent array. */
-MOSS_CHECK moss_answer moss_int_set_walk_on(const uint8_t *MOSS_RESTRICT marks, size_t marks_count,
+MOSS_CHECK MOSS_CALL moss_answer moss_int_set_walk_on(const uint8_t *MOSS_RESTRICT marks, size_t marks_count,
     const uint64_t *MOSS_RESTRICT keys, size_t keys_count, uint64_t *MOSS_RESTRICT walk, uint64_t budget);
 /* end of declarations of int_set */
 
@@ -321,64 +343,64 @@ MOSS_CHECK moss_answer moss_int_set_walk_on(const uint8_t *MOSS_RESTRICT marks, 
 
 /* from the list: declarations of byte_map */
 /* Makes an empty map of the lent arrays: every mark, word and arena byte becomes 0. MOSS_DONE. Refuses 1. */
-MOSS_CHECK moss_answer moss_byte_map_make(uint8_t *MOSS_RESTRICT marks, size_t marks_count,
+MOSS_CHECK MOSS_CALL moss_answer moss_byte_map_make(uint8_t *MOSS_RESTRICT marks, size_t marks_count,
     uint16_t *MOSS_RESTRICT offsets, size_t offsets_count, uint8_t *MOSS_RESTRICT lengths, size_t lengths_count,
     uint64_t *MOSS_RESTRICT values, size_t values_count, uint8_t *MOSS_RESTRICT arena, size_t arena_count);
 
 /* Empties a map, as make does. MOSS_DONE. Refuses 1. */
-MOSS_CHECK moss_answer moss_byte_map_clear(uint8_t *MOSS_RESTRICT marks, size_t marks_count,
+MOSS_CHECK MOSS_CALL moss_answer moss_byte_map_clear(uint8_t *MOSS_RESTRICT marks, size_t marks_count,
     uint16_t *MOSS_RESTRICT offsets, size_t offsets_count, uint8_t *MOSS_RESTRICT lengths, size_t lengths_count,
     uint64_t *MOSS_RESTRICT values, size_t values_count, uint8_t *MOSS_RESTRICT arena, size_t arena_count);
 
 /* The number of slots. MOSS_COUNT with value. Refuses 1. */
-MOSS_CHECK moss_answer moss_byte_map_capacity(const uint8_t *MOSS_RESTRICT marks, size_t marks_count,
+MOSS_CHECK MOSS_CALL moss_answer moss_byte_map_capacity(const uint8_t *MOSS_RESTRICT marks, size_t marks_count,
     const uint16_t *MOSS_RESTRICT offsets, size_t offsets_count, const uint8_t *MOSS_RESTRICT lengths, size_t lengths_count,
     const uint64_t *MOSS_RESTRICT values, size_t values_count, const uint8_t *MOSS_RESTRICT arena, size_t arena_count);
 
 /* The number of live slots, which on a sound table is that of its keys. MOSS_COUNT with value. Refuses 1, 5. */
-MOSS_CHECK moss_answer moss_byte_map_len(const uint8_t *MOSS_RESTRICT marks, size_t marks_count,
+MOSS_CHECK MOSS_CALL moss_answer moss_byte_map_len(const uint8_t *MOSS_RESTRICT marks, size_t marks_count,
     const uint16_t *MOSS_RESTRICT offsets, size_t offsets_count, const uint8_t *MOSS_RESTRICT lengths, size_t lengths_count,
     const uint64_t *MOSS_RESTRICT values, size_t values_count, const uint8_t *MOSS_RESTRICT arena, size_t arena_count);
 
 /* Whether no slot is live. MOSS_EMPTY or MOSS_HOLDS. Refuses 1, 5. */
-MOSS_CHECK moss_answer moss_byte_map_is_empty(const uint8_t *MOSS_RESTRICT marks, size_t marks_count,
+MOSS_CHECK MOSS_CALL moss_answer moss_byte_map_is_empty(const uint8_t *MOSS_RESTRICT marks, size_t marks_count,
     const uint16_t *MOSS_RESTRICT offsets, size_t offsets_count, const uint8_t *MOSS_RESTRICT lengths, size_t lengths_count,
     const uint64_t *MOSS_RESTRICT values, size_t values_count, const uint8_t *MOSS_RESTRICT arena, size_t arena_count);
 
 /* Whether `asked` slots or more are not live. MOSS_ROOM. Refuses 1, 5, 7. */
-MOSS_CHECK moss_answer moss_byte_map_reserve(const uint8_t *MOSS_RESTRICT marks, size_t marks_count,
+MOSS_CHECK MOSS_CALL moss_answer moss_byte_map_reserve(const uint8_t *MOSS_RESTRICT marks, size_t marks_count,
     const uint16_t *MOSS_RESTRICT offsets, size_t offsets_count, const uint8_t *MOSS_RESTRICT lengths, size_t lengths_count,
     const uint64_t *MOSS_RESTRICT values, size_t values_count, const uint8_t *MOSS_RESTRICT arena, size_t arena_count,
     uint64_t asked);
 
 /* The value of a key. MOSS_FOUND with value, slot and examined, or MOSS_ABSENT with examined. Refuses 1, 2, 5. */
-MOSS_CHECK moss_answer moss_byte_map_get(const uint8_t *MOSS_RESTRICT marks, size_t marks_count,
+MOSS_CHECK MOSS_CALL moss_answer moss_byte_map_get(const uint8_t *MOSS_RESTRICT marks, size_t marks_count,
     const uint16_t *MOSS_RESTRICT offsets, size_t offsets_count, const uint8_t *MOSS_RESTRICT lengths, size_t lengths_count,
     const uint64_t *MOSS_RESTRICT values, size_t values_count, const uint8_t *MOSS_RESTRICT arena, size_t arena_count,
     const uint8_t *MOSS_RESTRICT key, size_t key_length);
 
 /* Whether a key is there. MOSS_PRESENT or MOSS_ABSENT with examined. Refuses 1, 2, 5. */
-MOSS_CHECK moss_answer moss_byte_map_contains_key(const uint8_t *MOSS_RESTRICT marks, size_t marks_count,
+MOSS_CHECK MOSS_CALL moss_answer moss_byte_map_contains_key(const uint8_t *MOSS_RESTRICT marks, size_t marks_count,
     const uint16_t *MOSS_RESTRICT offsets, size_t offsets_count, const uint8_t *MOSS_RESTRICT lengths, size_t lengths_count,
     const uint64_t *MOSS_RESTRICT values, size_t values_count, const uint8_t *MOSS_RESTRICT arena, size_t arena_count,
     const uint8_t *MOSS_RESTRICT key, size_t key_length);
 
 /* Gives a key its value. MOSS_FRESH with slot, offset and examined, or MOSS_REPLACED with the old value, slot and examined.
  * Refuses 1, 2, 5, 7, 8. */
-MOSS_CHECK moss_answer moss_byte_map_insert(uint8_t *MOSS_RESTRICT marks, size_t marks_count,
+MOSS_CHECK MOSS_CALL moss_answer moss_byte_map_insert(uint8_t *MOSS_RESTRICT marks, size_t marks_count,
     uint16_t *MOSS_RESTRICT offsets, size_t offsets_count, uint8_t *MOSS_RESTRICT lengths, size_t lengths_count,
     uint64_t *MOSS_RESTRICT values, size_t values_count, uint8_t *MOSS_RESTRICT arena, size_t arena_count,
     const uint8_t *MOSS_RESTRICT key, size_t key_length, uint64_t value);
 
 /* Takes a key out, and closes the gap of its bytes. MOSS_REMOVED with its value, slot and examined, or MOSS_ABSENT with examined.
  * Refuses 1, 2, 5. */
-MOSS_CHECK moss_answer moss_byte_map_remove(uint8_t *MOSS_RESTRICT marks, size_t marks_count,
+MOSS_CHECK MOSS_CALL moss_answer moss_byte_map_remove(uint8_t *MOSS_RESTRICT marks, size_t marks_count,
     uint16_t *MOSS_RESTRICT offsets, size_t offsets_count, uint8_t *MOSS_RESTRICT lengths, size_t lengths_count,
     uint64_t *MOSS_RESTRICT values, size_t values_count, uint8_t *MOSS_RESTRICT arena, size_t arena_count,
     const uint8_t *MOSS_RESTRICT key, size_t key_length);
 
 /* Makes the map of the to_ arrays equal to the other in every slot and byte; both have the same sizes. MOSS_DONE. Refuses 1. */
-MOSS_CHECK moss_answer moss_byte_map_copy(uint8_t *MOSS_RESTRICT to_marks, size_t to_marks_count,
+MOSS_CHECK MOSS_CALL moss_answer moss_byte_map_copy(uint8_t *MOSS_RESTRICT to_marks, size_t to_marks_count,
     uint16_t *MOSS_RESTRICT to_offsets, size_t to_offsets_count, uint8_t *MOSS_RESTRICT to_lengths, size_t to_lengths_count,
     uint64_t *MOSS_RESTRICT to_values, size_t to_values_count, uint8_t *MOSS_RESTRICT to_arena, size_t to_arena_count,
     const uint8_t *MOSS_RESTRICT marks, size_t marks_count, const uint16_t *MOSS_RESTRICT offsets, size_t offsets_count,
@@ -387,7 +409,7 @@ MOSS_CHECK moss_answer moss_byte_map_copy(uint8_t *MOSS_RESTRICT to_marks, size_
 
 /* Puts the right's pairs into the left (the arrays without right_), all or none; the right may have another slot count and arena.
  * MOSS_DONE. Refuses 1, 5, 7, 8. */
-MOSS_CHECK moss_answer moss_byte_map_union_prefer_right(uint8_t *MOSS_RESTRICT marks, size_t marks_count,
+MOSS_CHECK MOSS_CALL moss_answer moss_byte_map_union_prefer_right(uint8_t *MOSS_RESTRICT marks, size_t marks_count,
     uint16_t *MOSS_RESTRICT offsets, size_t offsets_count, uint8_t *MOSS_RESTRICT lengths, size_t lengths_count,
     uint64_t *MOSS_RESTRICT values, size_t values_count, uint8_t *MOSS_RESTRICT arena, size_t arena_count,
     const uint8_t *MOSS_RESTRICT right_marks, size_t right_marks_count,
@@ -398,68 +420,68 @@ MOSS_CHECK moss_answer moss_byte_map_union_prefer_right(uint8_t *MOSS_RESTRICT m
 
 /* Where a key stands or would go. MOSS_OCCUPIED with slot, value and examined, or MOSS_VACANT with slot and examined. Refuses 1,
  * 2, 5, 7, 8. */
-MOSS_CHECK moss_answer moss_byte_map_entry(const uint8_t *MOSS_RESTRICT marks, size_t marks_count,
+MOSS_CHECK MOSS_CALL moss_answer moss_byte_map_entry(const uint8_t *MOSS_RESTRICT marks, size_t marks_count,
     const uint16_t *MOSS_RESTRICT offsets, size_t offsets_count, const uint8_t *MOSS_RESTRICT lengths, size_t lengths_count,
     const uint64_t *MOSS_RESTRICT values, size_t values_count, const uint8_t *MOSS_RESTRICT arena, size_t arena_count,
     const uint8_t *MOSS_RESTRICT key, size_t key_length);
 
 /* An occupied handle's value. MOSS_VALUE with value and slot. Refuses 1, 2, 5, 6. */
-MOSS_CHECK moss_answer moss_byte_map_occupied_get(const uint8_t *MOSS_RESTRICT marks, size_t marks_count,
+MOSS_CHECK MOSS_CALL moss_answer moss_byte_map_occupied_get(const uint8_t *MOSS_RESTRICT marks, size_t marks_count,
     const uint16_t *MOSS_RESTRICT offsets, size_t offsets_count, const uint8_t *MOSS_RESTRICT lengths, size_t lengths_count,
     const uint64_t *MOSS_RESTRICT values, size_t values_count, const uint8_t *MOSS_RESTRICT arena, size_t arena_count,
     uint64_t slot, const uint8_t *MOSS_RESTRICT key, size_t key_length);
 
 /* Gives an occupied handle's slot another value. MOSS_WAS with the old value and slot. Refuses 1, 2, 5, 6. */
-MOSS_CHECK moss_answer moss_byte_map_occupied_set(uint8_t *MOSS_RESTRICT marks, size_t marks_count,
+MOSS_CHECK MOSS_CALL moss_answer moss_byte_map_occupied_set(uint8_t *MOSS_RESTRICT marks, size_t marks_count,
     uint16_t *MOSS_RESTRICT offsets, size_t offsets_count, uint8_t *MOSS_RESTRICT lengths, size_t lengths_count,
     uint64_t *MOSS_RESTRICT values, size_t values_count, uint8_t *MOSS_RESTRICT arena, size_t arena_count, uint64_t slot,
     const uint8_t *MOSS_RESTRICT key, size_t key_length, uint64_t value);
 
 /* Frees an occupied handle's slot, and closes the gap of its bytes. MOSS_REMOVED with value. Refuses 1, 2, 5, 6. */
-MOSS_CHECK moss_answer moss_byte_map_occupied_remove(uint8_t *MOSS_RESTRICT marks, size_t marks_count,
+MOSS_CHECK MOSS_CALL moss_answer moss_byte_map_occupied_remove(uint8_t *MOSS_RESTRICT marks, size_t marks_count,
     uint16_t *MOSS_RESTRICT offsets, size_t offsets_count, uint8_t *MOSS_RESTRICT lengths, size_t lengths_count,
     uint64_t *MOSS_RESTRICT values, size_t values_count, uint8_t *MOSS_RESTRICT arena, size_t arena_count, uint64_t slot,
     const uint8_t *MOSS_RESTRICT key, size_t key_length);
 
 /* The same; the key is the one given. MOSS_REMOVED with value. Refuses 1, 2, 5, 6. */
-MOSS_CHECK moss_answer moss_byte_map_occupied_remove_entry(uint8_t *MOSS_RESTRICT marks, size_t marks_count,
+MOSS_CHECK MOSS_CALL moss_answer moss_byte_map_occupied_remove_entry(uint8_t *MOSS_RESTRICT marks, size_t marks_count,
     uint16_t *MOSS_RESTRICT offsets, size_t offsets_count, uint8_t *MOSS_RESTRICT lengths, size_t lengths_count,
     uint64_t *MOSS_RESTRICT values, size_t values_count, uint8_t *MOSS_RESTRICT arena, size_t arena_count, uint64_t slot,
     const uint8_t *MOSS_RESTRICT key, size_t key_length);
 
 /* Puts the key and a value into a vacant handle's slot. MOSS_NOW with value and slot. Refuses 1, 2, 5, 6. */
-MOSS_CHECK moss_answer moss_byte_map_vacant_insert(uint8_t *MOSS_RESTRICT marks, size_t marks_count,
+MOSS_CHECK MOSS_CALL moss_answer moss_byte_map_vacant_insert(uint8_t *MOSS_RESTRICT marks, size_t marks_count,
     uint16_t *MOSS_RESTRICT offsets, size_t offsets_count, uint8_t *MOSS_RESTRICT lengths, size_t lengths_count,
     uint64_t *MOSS_RESTRICT values, size_t values_count, uint8_t *MOSS_RESTRICT arena, size_t arena_count, uint64_t slot,
     const uint8_t *MOSS_RESTRICT key, size_t key_length, uint64_t value);
 
 /* Keeps the value of an occupied handle, or puts `value` into a vacant one's slot. MOSS_NOW with the value now there and slot.
  * Refuses 1, 2, 5, 6. */
-MOSS_CHECK moss_answer moss_byte_map_or_insert(uint8_t *MOSS_RESTRICT marks, size_t marks_count,
+MOSS_CHECK MOSS_CALL moss_answer moss_byte_map_or_insert(uint8_t *MOSS_RESTRICT marks, size_t marks_count,
     uint16_t *MOSS_RESTRICT offsets, size_t offsets_count, uint8_t *MOSS_RESTRICT lengths, size_t lengths_count,
     uint64_t *MOSS_RESTRICT values, size_t values_count, uint8_t *MOSS_RESTRICT arena, size_t arena_count, uint64_t which,
     uint64_t slot, const uint8_t *MOSS_RESTRICT key, size_t key_length, uint64_t value);
 
 /* Gives an occupied handle's slot the value, or puts it into a vacant one's slot. MOSS_NOW with value and slot. Refuses 1, 2, 5,
  * 6. */
-MOSS_CHECK moss_answer moss_byte_map_insert_entry(uint8_t *MOSS_RESTRICT marks, size_t marks_count,
+MOSS_CHECK MOSS_CALL moss_answer moss_byte_map_insert_entry(uint8_t *MOSS_RESTRICT marks, size_t marks_count,
     uint16_t *MOSS_RESTRICT offsets, size_t offsets_count, uint8_t *MOSS_RESTRICT lengths, size_t lengths_count,
     uint64_t *MOSS_RESTRICT values, size_t values_count, uint8_t *MOSS_RESTRICT arena, size_t arena_count, uint64_t which,
     uint64_t slot, const uint8_t *MOSS_RESTRICT key, size_t key_length, uint64_t value);
 
 /* Where a walk starts: 0. */
-uint64_t moss_byte_map_walk_start(void);
+MOSS_CALL uint64_t moss_byte_map_walk_start(void);
 
 /* One step of a walk over at most `budget` slots. MOSS_PAIR with offset, length, value, walk and examined, MOSS_NOTHING with walk
  * and examined, or MOSS_WALK_DONE with walk. Refuses 1, 3, 4, 5, with the walk as it came. */
-MOSS_CHECK moss_answer moss_byte_map_step(const uint8_t *MOSS_RESTRICT marks, size_t marks_count,
+MOSS_CHECK MOSS_CALL moss_answer moss_byte_map_step(const uint8_t *MOSS_RESTRICT marks, size_t marks_count,
     const uint16_t *MOSS_RESTRICT offsets, size_t offsets_count, const uint8_t *MOSS_RESTRICT lengths, size_t lengths_count,
     const uint64_t *MOSS_RESTRICT values, size_t values_count, const uint8_t *MOSS_RESTRICT arena, size_t arena_count,
     uint64_t walk, uint64_t budget);
 
 /* The same step of a lent walk, which moves on in its place: afterwards it is the answer's walk. `walk` may not be NULL, nor lie
  * in a lent array. */
-MOSS_CHECK moss_answer moss_byte_map_walk_on(const uint8_t *MOSS_RESTRICT marks, size_t marks_count,
+MOSS_CHECK MOSS_CALL moss_answer moss_byte_map_walk_on(const uint8_t *MOSS_RESTRICT marks, size_t marks_count,
     const uint16_t *MOSS_RESTRICT offsets, size_t offsets_count, const uint8_t *MOSS_RESTRICT lengths, size_t lengths_count,
     const uint64_t *MOSS_RESTRICT values, size_t values_count, const uint8_t *MOSS_RESTRICT arena, size_t arena_count,
     uint64_t *MOSS_RESTRICT walk, uint64_t budget);
@@ -469,76 +491,76 @@ MOSS_CHECK moss_answer moss_byte_map_walk_on(const uint8_t *MOSS_RESTRICT marks,
 
 /* from the list: declarations of byte_set */
 /* Makes an empty set of the lent arrays: every mark, word and arena byte becomes 0. MOSS_DONE. Refuses 1. */
-MOSS_CHECK moss_answer moss_byte_set_make(uint8_t *MOSS_RESTRICT marks, size_t marks_count,
+MOSS_CHECK MOSS_CALL moss_answer moss_byte_set_make(uint8_t *MOSS_RESTRICT marks, size_t marks_count,
     uint16_t *MOSS_RESTRICT offsets, size_t offsets_count, uint8_t *MOSS_RESTRICT lengths, size_t lengths_count,
     uint8_t *MOSS_RESTRICT arena, size_t arena_count);
 
 /* Empties a set, as make does. MOSS_DONE. Refuses 1. */
-MOSS_CHECK moss_answer moss_byte_set_clear(uint8_t *MOSS_RESTRICT marks, size_t marks_count,
+MOSS_CHECK MOSS_CALL moss_answer moss_byte_set_clear(uint8_t *MOSS_RESTRICT marks, size_t marks_count,
     uint16_t *MOSS_RESTRICT offsets, size_t offsets_count, uint8_t *MOSS_RESTRICT lengths, size_t lengths_count,
     uint8_t *MOSS_RESTRICT arena, size_t arena_count);
 
 /* The number of slots. MOSS_COUNT with value. Refuses 1. */
-MOSS_CHECK moss_answer moss_byte_set_capacity(const uint8_t *MOSS_RESTRICT marks, size_t marks_count,
+MOSS_CHECK MOSS_CALL moss_answer moss_byte_set_capacity(const uint8_t *MOSS_RESTRICT marks, size_t marks_count,
     const uint16_t *MOSS_RESTRICT offsets, size_t offsets_count, const uint8_t *MOSS_RESTRICT lengths, size_t lengths_count,
     const uint8_t *MOSS_RESTRICT arena, size_t arena_count);
 
 /* The number of live slots, which on a sound table is that of its keys. MOSS_COUNT with value. Refuses 1, 5. */
-MOSS_CHECK moss_answer moss_byte_set_len(const uint8_t *MOSS_RESTRICT marks, size_t marks_count,
+MOSS_CHECK MOSS_CALL moss_answer moss_byte_set_len(const uint8_t *MOSS_RESTRICT marks, size_t marks_count,
     const uint16_t *MOSS_RESTRICT offsets, size_t offsets_count, const uint8_t *MOSS_RESTRICT lengths, size_t lengths_count,
     const uint8_t *MOSS_RESTRICT arena, size_t arena_count);
 
 /* Whether no slot is live. MOSS_EMPTY or MOSS_HOLDS. Refuses 1, 5. */
-MOSS_CHECK moss_answer moss_byte_set_is_empty(const uint8_t *MOSS_RESTRICT marks, size_t marks_count,
+MOSS_CHECK MOSS_CALL moss_answer moss_byte_set_is_empty(const uint8_t *MOSS_RESTRICT marks, size_t marks_count,
     const uint16_t *MOSS_RESTRICT offsets, size_t offsets_count, const uint8_t *MOSS_RESTRICT lengths, size_t lengths_count,
     const uint8_t *MOSS_RESTRICT arena, size_t arena_count);
 
 /* Whether `asked` slots or more are not live. MOSS_ROOM. Refuses 1, 5, 7. */
-MOSS_CHECK moss_answer moss_byte_set_reserve(const uint8_t *MOSS_RESTRICT marks, size_t marks_count,
+MOSS_CHECK MOSS_CALL moss_answer moss_byte_set_reserve(const uint8_t *MOSS_RESTRICT marks, size_t marks_count,
     const uint16_t *MOSS_RESTRICT offsets, size_t offsets_count, const uint8_t *MOSS_RESTRICT lengths, size_t lengths_count,
     const uint8_t *MOSS_RESTRICT arena, size_t arena_count, uint64_t asked);
 
 /* Where the key is stored. MOSS_FOUND with offset, length, slot and examined, or MOSS_ABSENT with examined. Refuses 1, 2, 5. */
-MOSS_CHECK moss_answer moss_byte_set_get(const uint8_t *MOSS_RESTRICT marks, size_t marks_count,
+MOSS_CHECK MOSS_CALL moss_answer moss_byte_set_get(const uint8_t *MOSS_RESTRICT marks, size_t marks_count,
     const uint16_t *MOSS_RESTRICT offsets, size_t offsets_count, const uint8_t *MOSS_RESTRICT lengths, size_t lengths_count,
     const uint8_t *MOSS_RESTRICT arena, size_t arena_count, const uint8_t *MOSS_RESTRICT key, size_t key_length);
 
 /* Whether a key is there. MOSS_PRESENT or MOSS_ABSENT with examined. Refuses 1, 2, 5. */
-MOSS_CHECK moss_answer moss_byte_set_contains(const uint8_t *MOSS_RESTRICT marks, size_t marks_count,
+MOSS_CHECK MOSS_CALL moss_answer moss_byte_set_contains(const uint8_t *MOSS_RESTRICT marks, size_t marks_count,
     const uint16_t *MOSS_RESTRICT offsets, size_t offsets_count, const uint8_t *MOSS_RESTRICT lengths, size_t lengths_count,
     const uint8_t *MOSS_RESTRICT arena, size_t arena_count, const uint8_t *MOSS_RESTRICT key, size_t key_length);
 
 /* Puts a key in. MOSS_FRESH with slot, offset and examined, or MOSS_REPLACED with slot and examined where it was there already.
  * Refuses 1, 2, 5, 7, 8. */
-MOSS_CHECK moss_answer moss_byte_set_insert(uint8_t *MOSS_RESTRICT marks, size_t marks_count,
+MOSS_CHECK MOSS_CALL moss_answer moss_byte_set_insert(uint8_t *MOSS_RESTRICT marks, size_t marks_count,
     uint16_t *MOSS_RESTRICT offsets, size_t offsets_count, uint8_t *MOSS_RESTRICT lengths, size_t lengths_count,
     uint8_t *MOSS_RESTRICT arena, size_t arena_count, const uint8_t *MOSS_RESTRICT key, size_t key_length);
 
 /* Takes a key out, and closes the gap of its bytes. MOSS_REMOVED with slot and examined, or MOSS_ABSENT with examined. Refuses 1,
  * 2, 5. */
-MOSS_CHECK moss_answer moss_byte_set_remove(uint8_t *MOSS_RESTRICT marks, size_t marks_count,
+MOSS_CHECK MOSS_CALL moss_answer moss_byte_set_remove(uint8_t *MOSS_RESTRICT marks, size_t marks_count,
     uint16_t *MOSS_RESTRICT offsets, size_t offsets_count, uint8_t *MOSS_RESTRICT lengths, size_t lengths_count,
     uint8_t *MOSS_RESTRICT arena, size_t arena_count, const uint8_t *MOSS_RESTRICT key, size_t key_length);
 
 /* Makes the set of the to_ arrays equal to the other in every slot and byte; both have the same sizes. MOSS_DONE. Refuses 1. */
-MOSS_CHECK moss_answer moss_byte_set_copy(uint8_t *MOSS_RESTRICT to_marks, size_t to_marks_count,
+MOSS_CHECK MOSS_CALL moss_answer moss_byte_set_copy(uint8_t *MOSS_RESTRICT to_marks, size_t to_marks_count,
     uint16_t *MOSS_RESTRICT to_offsets, size_t to_offsets_count, uint8_t *MOSS_RESTRICT to_lengths, size_t to_lengths_count,
     uint8_t *MOSS_RESTRICT to_arena, size_t to_arena_count, const uint8_t *MOSS_RESTRICT marks, size_t marks_count,
     const uint16_t *MOSS_RESTRICT offsets, size_t offsets_count, const uint8_t *MOSS_RESTRICT lengths, size_t lengths_count,
     const uint8_t *MOSS_RESTRICT arena, size_t arena_count);
 
 /* Where a walk starts: 0. */
-uint64_t moss_byte_set_walk_start(void);
+MOSS_CALL uint64_t moss_byte_set_walk_start(void);
 
 /* One step of a walk over at most `budget` slots. MOSS_PAIR with offset, length, walk and examined, MOSS_NOTHING with walk and
  * examined, or MOSS_WALK_DONE with walk. Refuses 1, 3, 4, 5, with the walk as it came. */
-MOSS_CHECK moss_answer moss_byte_set_step(const uint8_t *MOSS_RESTRICT marks, size_t marks_count,
+MOSS_CHECK MOSS_CALL moss_answer moss_byte_set_step(const uint8_t *MOSS_RESTRICT marks, size_t marks_count,
     const uint16_t *MOSS_RESTRICT offsets, size_t offsets_count, const uint8_t *MOSS_RESTRICT lengths, size_t lengths_count,
     const uint8_t *MOSS_RESTRICT arena, size_t arena_count, uint64_t walk, uint64_t budget);
 
 /* The same step of a lent walk, which moves on in its place: afterwards it is the answer's walk. `walk` may not be NULL, nor lie
  * in a lent array. */
-MOSS_CHECK moss_answer moss_byte_set_walk_on(const uint8_t *MOSS_RESTRICT marks, size_t marks_count,
+MOSS_CHECK MOSS_CALL moss_answer moss_byte_set_walk_on(const uint8_t *MOSS_RESTRICT marks, size_t marks_count,
     const uint16_t *MOSS_RESTRICT offsets, size_t offsets_count, const uint8_t *MOSS_RESTRICT lengths, size_t lengths_count,
     const uint8_t *MOSS_RESTRICT arena, size_t arena_count, uint64_t *MOSS_RESTRICT walk, uint64_t budget);
 /* end of declarations of byte_set */
@@ -1358,6 +1380,948 @@ MOSS_CHECK static inline int moss_bsv_next(const moss_byte_set_view *t, moss_ans
     return step->which == MOSS_PAIR;
 }
 /* end of calls of byte_set */
+
+#ifdef MOSS_WIDE
+/* The functions of the archives for other processors than x86-64, and the calls by them. */
+
+uint64_t moss_digest_wide(const uint8_t *bytes, uint64_t length);
+MOSS_CALL uint64_t moss_digest(const uint8_t *bytes, size_t length)
+{
+    return moss_digest_wide(bytes, length);
+}
+
+uint64_t moss_home_wide(const uint8_t *bytes, uint64_t length, uint64_t slots);
+MOSS_CALL uint64_t moss_home(const uint8_t *bytes, size_t length, uint64_t slots)
+{
+    return moss_home_wide(bytes, length, slots);
+}
+
+/* from the list: wide calls of int_map */
+moss_answer *moss_int_map_make_wide(moss_answer *MOSS_RESTRICT answer, uint8_t *MOSS_RESTRICT marks, uint64_t marks_count,
+    uint64_t *MOSS_RESTRICT keys, uint64_t keys_count, uint64_t *MOSS_RESTRICT values, uint64_t values_count);
+MOSS_CALL moss_answer moss_int_map_make(uint8_t *MOSS_RESTRICT marks, size_t marks_count,
+    uint64_t *MOSS_RESTRICT keys, size_t keys_count, uint64_t *MOSS_RESTRICT values, size_t values_count)
+{
+    moss_answer answer;
+    moss_int_map_make_wide(&answer, marks, marks_count, keys, keys_count, values, values_count);
+    return answer;
+}
+
+moss_answer *moss_int_map_clear_wide(moss_answer *MOSS_RESTRICT answer, uint8_t *MOSS_RESTRICT marks, uint64_t marks_count,
+    uint64_t *MOSS_RESTRICT keys, uint64_t keys_count, uint64_t *MOSS_RESTRICT values, uint64_t values_count);
+MOSS_CALL moss_answer moss_int_map_clear(uint8_t *MOSS_RESTRICT marks, size_t marks_count,
+    uint64_t *MOSS_RESTRICT keys, size_t keys_count, uint64_t *MOSS_RESTRICT values, size_t values_count)
+{
+    moss_answer answer;
+    moss_int_map_clear_wide(&answer, marks, marks_count, keys, keys_count, values, values_count);
+    return answer;
+}
+
+moss_answer *moss_int_map_capacity_wide(moss_answer *MOSS_RESTRICT answer, const uint8_t *MOSS_RESTRICT marks, uint64_t marks_count,
+    const uint64_t *MOSS_RESTRICT keys, uint64_t keys_count, const uint64_t *MOSS_RESTRICT values, uint64_t values_count);
+MOSS_CALL moss_answer moss_int_map_capacity(const uint8_t *MOSS_RESTRICT marks, size_t marks_count,
+    const uint64_t *MOSS_RESTRICT keys, size_t keys_count, const uint64_t *MOSS_RESTRICT values, size_t values_count)
+{
+    moss_answer answer;
+    moss_int_map_capacity_wide(&answer, marks, marks_count, keys, keys_count, values, values_count);
+    return answer;
+}
+
+moss_answer *moss_int_map_len_wide(moss_answer *MOSS_RESTRICT answer, const uint8_t *MOSS_RESTRICT marks, uint64_t marks_count,
+    const uint64_t *MOSS_RESTRICT keys, uint64_t keys_count, const uint64_t *MOSS_RESTRICT values, uint64_t values_count);
+MOSS_CALL moss_answer moss_int_map_len(const uint8_t *MOSS_RESTRICT marks, size_t marks_count,
+    const uint64_t *MOSS_RESTRICT keys, size_t keys_count, const uint64_t *MOSS_RESTRICT values, size_t values_count)
+{
+    moss_answer answer;
+    moss_int_map_len_wide(&answer, marks, marks_count, keys, keys_count, values, values_count);
+    return answer;
+}
+
+moss_answer *moss_int_map_is_empty_wide(moss_answer *MOSS_RESTRICT answer, const uint8_t *MOSS_RESTRICT marks, uint64_t marks_count,
+    const uint64_t *MOSS_RESTRICT keys, uint64_t keys_count, const uint64_t *MOSS_RESTRICT values, uint64_t values_count);
+MOSS_CALL moss_answer moss_int_map_is_empty(const uint8_t *MOSS_RESTRICT marks, size_t marks_count,
+    const uint64_t *MOSS_RESTRICT keys, size_t keys_count, const uint64_t *MOSS_RESTRICT values, size_t values_count)
+{
+    moss_answer answer;
+    moss_int_map_is_empty_wide(&answer, marks, marks_count, keys, keys_count, values, values_count);
+    return answer;
+}
+
+moss_answer *moss_int_map_reserve_wide(moss_answer *MOSS_RESTRICT answer, const uint8_t *MOSS_RESTRICT marks, uint64_t marks_count,
+    const uint64_t *MOSS_RESTRICT keys, uint64_t keys_count, const uint64_t *MOSS_RESTRICT values, uint64_t values_count,
+    uint64_t asked);
+MOSS_CALL moss_answer moss_int_map_reserve(const uint8_t *MOSS_RESTRICT marks, size_t marks_count,
+    const uint64_t *MOSS_RESTRICT keys, size_t keys_count, const uint64_t *MOSS_RESTRICT values, size_t values_count,
+    uint64_t asked)
+{
+    moss_answer answer;
+    moss_int_map_reserve_wide(&answer, marks, marks_count, keys, keys_count, values, values_count, asked);
+    return answer;
+}
+
+moss_answer *moss_int_map_get_wide(moss_answer *MOSS_RESTRICT answer, const uint8_t *MOSS_RESTRICT marks, uint64_t marks_count,
+    const uint64_t *MOSS_RESTRICT keys, uint64_t keys_count, const uint64_t *MOSS_RESTRICT values, uint64_t values_count,
+    uint64_t key);
+MOSS_CALL moss_answer moss_int_map_get(const uint8_t *MOSS_RESTRICT marks, size_t marks_count,
+    const uint64_t *MOSS_RESTRICT keys, size_t keys_count, const uint64_t *MOSS_RESTRICT values, size_t values_count, uint64_t key)
+{
+    moss_answer answer;
+    moss_int_map_get_wide(&answer, marks, marks_count, keys, keys_count, values, values_count, key);
+    return answer;
+}
+
+moss_answer *moss_int_map_contains_key_wide(moss_answer *MOSS_RESTRICT answer,
+    const uint8_t *MOSS_RESTRICT marks, uint64_t marks_count, const uint64_t *MOSS_RESTRICT keys, uint64_t keys_count,
+    const uint64_t *MOSS_RESTRICT values, uint64_t values_count, uint64_t key);
+MOSS_CALL moss_answer moss_int_map_contains_key(const uint8_t *MOSS_RESTRICT marks, size_t marks_count,
+    const uint64_t *MOSS_RESTRICT keys, size_t keys_count, const uint64_t *MOSS_RESTRICT values, size_t values_count, uint64_t key)
+{
+    moss_answer answer;
+    moss_int_map_contains_key_wide(&answer, marks, marks_count, keys, keys_count, values, values_count, key);
+    return answer;
+}
+
+moss_answer *moss_int_map_insert_wide(moss_answer *MOSS_RESTRICT answer, uint8_t *MOSS_RESTRICT marks, uint64_t marks_count,
+    uint64_t *MOSS_RESTRICT keys, uint64_t keys_count, uint64_t *MOSS_RESTRICT values, uint64_t values_count, uint64_t key,
+    uint64_t value);
+MOSS_CALL moss_answer moss_int_map_insert(uint8_t *MOSS_RESTRICT marks, size_t marks_count,
+    uint64_t *MOSS_RESTRICT keys, size_t keys_count, uint64_t *MOSS_RESTRICT values, size_t values_count, uint64_t key,
+    uint64_t value)
+{
+    moss_answer answer;
+    moss_int_map_insert_wide(&answer, marks, marks_count, keys, keys_count, values, values_count, key, value);
+    return answer;
+}
+
+moss_answer *moss_int_map_remove_wide(moss_answer *MOSS_RESTRICT answer, uint8_t *MOSS_RESTRICT marks, uint64_t marks_count,
+    uint64_t *MOSS_RESTRICT keys, uint64_t keys_count, uint64_t *MOSS_RESTRICT values, uint64_t values_count, uint64_t key);
+MOSS_CALL moss_answer moss_int_map_remove(uint8_t *MOSS_RESTRICT marks, size_t marks_count,
+    uint64_t *MOSS_RESTRICT keys, size_t keys_count, uint64_t *MOSS_RESTRICT values, size_t values_count, uint64_t key)
+{
+    moss_answer answer;
+    moss_int_map_remove_wide(&answer, marks, marks_count, keys, keys_count, values, values_count, key);
+    return answer;
+}
+
+moss_answer *moss_int_map_copy_wide(moss_answer *MOSS_RESTRICT answer, uint8_t *MOSS_RESTRICT to_marks, uint64_t to_marks_count,
+    uint64_t *MOSS_RESTRICT to_keys, uint64_t to_keys_count, uint64_t *MOSS_RESTRICT to_values, uint64_t to_values_count,
+    const uint8_t *MOSS_RESTRICT marks, uint64_t marks_count, const uint64_t *MOSS_RESTRICT keys, uint64_t keys_count,
+    const uint64_t *MOSS_RESTRICT values, uint64_t values_count);
+MOSS_CALL moss_answer moss_int_map_copy(uint8_t *MOSS_RESTRICT to_marks, size_t to_marks_count,
+    uint64_t *MOSS_RESTRICT to_keys, size_t to_keys_count, uint64_t *MOSS_RESTRICT to_values, size_t to_values_count,
+    const uint8_t *MOSS_RESTRICT marks, size_t marks_count, const uint64_t *MOSS_RESTRICT keys, size_t keys_count,
+    const uint64_t *MOSS_RESTRICT values, size_t values_count)
+{
+    moss_answer answer;
+    moss_int_map_copy_wide(&answer, to_marks, to_marks_count, to_keys, to_keys_count, to_values, to_values_count, marks,
+        marks_count, keys, keys_count, values, values_count);
+    return answer;
+}
+
+moss_answer *moss_int_map_union_prefer_right_wide(moss_answer *MOSS_RESTRICT answer,
+    uint8_t *MOSS_RESTRICT marks, uint64_t marks_count, uint64_t *MOSS_RESTRICT keys, uint64_t keys_count,
+    uint64_t *MOSS_RESTRICT values, uint64_t values_count, const uint8_t *MOSS_RESTRICT right_marks, uint64_t right_marks_count,
+    const uint64_t *MOSS_RESTRICT right_keys, uint64_t right_keys_count,
+    const uint64_t *MOSS_RESTRICT right_values, uint64_t right_values_count);
+MOSS_CALL moss_answer moss_int_map_union_prefer_right(uint8_t *MOSS_RESTRICT marks, size_t marks_count,
+    uint64_t *MOSS_RESTRICT keys, size_t keys_count, uint64_t *MOSS_RESTRICT values, size_t values_count,
+    const uint8_t *MOSS_RESTRICT right_marks, size_t right_marks_count,
+    const uint64_t *MOSS_RESTRICT right_keys, size_t right_keys_count,
+    const uint64_t *MOSS_RESTRICT right_values, size_t right_values_count)
+{
+    moss_answer answer;
+    moss_int_map_union_prefer_right_wide(&answer, marks, marks_count, keys, keys_count, values, values_count, right_marks,
+        right_marks_count, right_keys, right_keys_count, right_values, right_values_count);
+    return answer;
+}
+
+moss_answer *moss_int_map_entry_wide(moss_answer *MOSS_RESTRICT answer, const uint8_t *MOSS_RESTRICT marks, uint64_t marks_count,
+    const uint64_t *MOSS_RESTRICT keys, uint64_t keys_count, const uint64_t *MOSS_RESTRICT values, uint64_t values_count,
+    uint64_t key);
+MOSS_CALL moss_answer moss_int_map_entry(const uint8_t *MOSS_RESTRICT marks, size_t marks_count,
+    const uint64_t *MOSS_RESTRICT keys, size_t keys_count, const uint64_t *MOSS_RESTRICT values, size_t values_count, uint64_t key)
+{
+    moss_answer answer;
+    moss_int_map_entry_wide(&answer, marks, marks_count, keys, keys_count, values, values_count, key);
+    return answer;
+}
+
+moss_answer *moss_int_map_occupied_get_wide(moss_answer *MOSS_RESTRICT answer,
+    const uint8_t *MOSS_RESTRICT marks, uint64_t marks_count, const uint64_t *MOSS_RESTRICT keys, uint64_t keys_count,
+    const uint64_t *MOSS_RESTRICT values, uint64_t values_count, uint64_t slot, uint64_t key);
+MOSS_CALL moss_answer moss_int_map_occupied_get(const uint8_t *MOSS_RESTRICT marks, size_t marks_count,
+    const uint64_t *MOSS_RESTRICT keys, size_t keys_count, const uint64_t *MOSS_RESTRICT values, size_t values_count, uint64_t slot,
+    uint64_t key)
+{
+    moss_answer answer;
+    moss_int_map_occupied_get_wide(&answer, marks, marks_count, keys, keys_count, values, values_count, slot, key);
+    return answer;
+}
+
+moss_answer *moss_int_map_occupied_set_wide(moss_answer *MOSS_RESTRICT answer, uint8_t *MOSS_RESTRICT marks, uint64_t marks_count,
+    uint64_t *MOSS_RESTRICT keys, uint64_t keys_count, uint64_t *MOSS_RESTRICT values, uint64_t values_count, uint64_t slot,
+    uint64_t key, uint64_t value);
+MOSS_CALL moss_answer moss_int_map_occupied_set(uint8_t *MOSS_RESTRICT marks, size_t marks_count,
+    uint64_t *MOSS_RESTRICT keys, size_t keys_count, uint64_t *MOSS_RESTRICT values, size_t values_count, uint64_t slot,
+    uint64_t key, uint64_t value)
+{
+    moss_answer answer;
+    moss_int_map_occupied_set_wide(&answer, marks, marks_count, keys, keys_count, values, values_count, slot, key, value);
+    return answer;
+}
+
+moss_answer *moss_int_map_occupied_remove_wide(moss_answer *MOSS_RESTRICT answer,
+    uint8_t *MOSS_RESTRICT marks, uint64_t marks_count, uint64_t *MOSS_RESTRICT keys, uint64_t keys_count,
+    uint64_t *MOSS_RESTRICT values, uint64_t values_count, uint64_t slot, uint64_t key);
+MOSS_CALL moss_answer moss_int_map_occupied_remove(uint8_t *MOSS_RESTRICT marks, size_t marks_count,
+    uint64_t *MOSS_RESTRICT keys, size_t keys_count, uint64_t *MOSS_RESTRICT values, size_t values_count, uint64_t slot,
+    uint64_t key)
+{
+    moss_answer answer;
+    moss_int_map_occupied_remove_wide(&answer, marks, marks_count, keys, keys_count, values, values_count, slot, key);
+    return answer;
+}
+
+moss_answer *moss_int_map_occupied_remove_entry_wide(moss_answer *MOSS_RESTRICT answer,
+    uint8_t *MOSS_RESTRICT marks, uint64_t marks_count, uint64_t *MOSS_RESTRICT keys, uint64_t keys_count,
+    uint64_t *MOSS_RESTRICT values, uint64_t values_count, uint64_t slot, uint64_t key);
+MOSS_CALL moss_answer moss_int_map_occupied_remove_entry(uint8_t *MOSS_RESTRICT marks, size_t marks_count,
+    uint64_t *MOSS_RESTRICT keys, size_t keys_count, uint64_t *MOSS_RESTRICT values, size_t values_count, uint64_t slot,
+    uint64_t key)
+{
+    moss_answer answer;
+    moss_int_map_occupied_remove_entry_wide(&answer, marks, marks_count, keys, keys_count, values, values_count, slot, key);
+    return answer;
+}
+
+moss_answer *moss_int_map_vacant_insert_wide(moss_answer *MOSS_RESTRICT answer, uint8_t *MOSS_RESTRICT marks, uint64_t marks_count,
+    uint64_t *MOSS_RESTRICT keys, uint64_t keys_count, uint64_t *MOSS_RESTRICT values, uint64_t values_count, uint64_t slot,
+    uint64_t key, uint64_t value);
+MOSS_CALL moss_answer moss_int_map_vacant_insert(uint8_t *MOSS_RESTRICT marks, size_t marks_count,
+    uint64_t *MOSS_RESTRICT keys, size_t keys_count, uint64_t *MOSS_RESTRICT values, size_t values_count, uint64_t slot,
+    uint64_t key, uint64_t value)
+{
+    moss_answer answer;
+    moss_int_map_vacant_insert_wide(&answer, marks, marks_count, keys, keys_count, values, values_count, slot, key, value);
+    return answer;
+}
+
+moss_answer *moss_int_map_or_insert_wide(moss_answer *MOSS_RESTRICT answer, uint8_t *MOSS_RESTRICT marks, uint64_t marks_count,
+    uint64_t *MOSS_RESTRICT keys, uint64_t keys_count, uint64_t *MOSS_RESTRICT values, uint64_t values_count, uint64_t which,
+    uint64_t slot, uint64_t key, uint64_t value);
+MOSS_CALL moss_answer moss_int_map_or_insert(uint8_t *MOSS_RESTRICT marks, size_t marks_count,
+    uint64_t *MOSS_RESTRICT keys, size_t keys_count, uint64_t *MOSS_RESTRICT values, size_t values_count, uint64_t which,
+    uint64_t slot, uint64_t key, uint64_t value)
+{
+    moss_answer answer;
+    moss_int_map_or_insert_wide(&answer, marks, marks_count, keys, keys_count, values, values_count, which, slot, key, value);
+    return answer;
+}
+
+moss_answer *moss_int_map_insert_entry_wide(moss_answer *MOSS_RESTRICT answer, uint8_t *MOSS_RESTRICT marks, uint64_t marks_count,
+    uint64_t *MOSS_RESTRICT keys, uint64_t keys_count, uint64_t *MOSS_RESTRICT values, uint64_t values_count, uint64_t which,
+    uint64_t slot, uint64_t key, uint64_t value);
+MOSS_CALL moss_answer moss_int_map_insert_entry(uint8_t *MOSS_RESTRICT marks, size_t marks_count,
+    uint64_t *MOSS_RESTRICT keys, size_t keys_count, uint64_t *MOSS_RESTRICT values, size_t values_count, uint64_t which,
+    uint64_t slot, uint64_t key, uint64_t value)
+{
+    moss_answer answer;
+    moss_int_map_insert_entry_wide(&answer, marks, marks_count, keys, keys_count, values, values_count, which, slot, key, value);
+    return answer;
+}
+
+uint64_t moss_int_map_walk_start_wide(void);
+MOSS_CALL uint64_t moss_int_map_walk_start(void)
+{
+    return moss_int_map_walk_start_wide();
+}
+
+moss_answer *moss_int_map_step_wide(moss_answer *MOSS_RESTRICT answer, const uint8_t *MOSS_RESTRICT marks, uint64_t marks_count,
+    const uint64_t *MOSS_RESTRICT keys, uint64_t keys_count, const uint64_t *MOSS_RESTRICT values, uint64_t values_count,
+    uint64_t walk, uint64_t budget);
+MOSS_CALL moss_answer moss_int_map_step(const uint8_t *MOSS_RESTRICT marks, size_t marks_count,
+    const uint64_t *MOSS_RESTRICT keys, size_t keys_count, const uint64_t *MOSS_RESTRICT values, size_t values_count, uint64_t walk,
+    uint64_t budget)
+{
+    moss_answer answer;
+    moss_int_map_step_wide(&answer, marks, marks_count, keys, keys_count, values, values_count, walk, budget);
+    return answer;
+}
+
+moss_answer *moss_int_map_walk_on_wide(moss_answer *MOSS_RESTRICT answer, const uint8_t *MOSS_RESTRICT marks, uint64_t marks_count,
+    const uint64_t *MOSS_RESTRICT keys, uint64_t keys_count, const uint64_t *MOSS_RESTRICT values, uint64_t values_count,
+    uint64_t *MOSS_RESTRICT walk, uint64_t budget);
+MOSS_CALL moss_answer moss_int_map_walk_on(const uint8_t *MOSS_RESTRICT marks, size_t marks_count,
+    const uint64_t *MOSS_RESTRICT keys, size_t keys_count, const uint64_t *MOSS_RESTRICT values, size_t values_count,
+    uint64_t *MOSS_RESTRICT walk, uint64_t budget)
+{
+    moss_answer answer;
+    moss_int_map_walk_on_wide(&answer, marks, marks_count, keys, keys_count, values, values_count, walk, budget);
+    return answer;
+}
+/* end of wide calls of int_map */
+
+/* from the list: wide calls of int_set */
+moss_answer *moss_int_set_make_wide(moss_answer *MOSS_RESTRICT answer, uint8_t *MOSS_RESTRICT marks, uint64_t marks_count,
+    uint64_t *MOSS_RESTRICT keys, uint64_t keys_count);
+MOSS_CALL moss_answer moss_int_set_make(uint8_t *MOSS_RESTRICT marks, size_t marks_count,
+    uint64_t *MOSS_RESTRICT keys, size_t keys_count)
+{
+    moss_answer answer;
+    moss_int_set_make_wide(&answer, marks, marks_count, keys, keys_count);
+    return answer;
+}
+
+moss_answer *moss_int_set_clear_wide(moss_answer *MOSS_RESTRICT answer, uint8_t *MOSS_RESTRICT marks, uint64_t marks_count,
+    uint64_t *MOSS_RESTRICT keys, uint64_t keys_count);
+MOSS_CALL moss_answer moss_int_set_clear(uint8_t *MOSS_RESTRICT marks, size_t marks_count,
+    uint64_t *MOSS_RESTRICT keys, size_t keys_count)
+{
+    moss_answer answer;
+    moss_int_set_clear_wide(&answer, marks, marks_count, keys, keys_count);
+    return answer;
+}
+
+moss_answer *moss_int_set_capacity_wide(moss_answer *MOSS_RESTRICT answer, const uint8_t *MOSS_RESTRICT marks, uint64_t marks_count,
+    const uint64_t *MOSS_RESTRICT keys, uint64_t keys_count);
+MOSS_CALL moss_answer moss_int_set_capacity(const uint8_t *MOSS_RESTRICT marks, size_t marks_count,
+    const uint64_t *MOSS_RESTRICT keys, size_t keys_count)
+{
+    moss_answer answer;
+    moss_int_set_capacity_wide(&answer, marks, marks_count, keys, keys_count);
+    return answer;
+}
+
+moss_answer *moss_int_set_len_wide(moss_answer *MOSS_RESTRICT answer, const uint8_t *MOSS_RESTRICT marks, uint64_t marks_count,
+    const uint64_t *MOSS_RESTRICT keys, uint64_t keys_count);
+MOSS_CALL moss_answer moss_int_set_len(const uint8_t *MOSS_RESTRICT marks, size_t marks_count,
+    const uint64_t *MOSS_RESTRICT keys, size_t keys_count)
+{
+    moss_answer answer;
+    moss_int_set_len_wide(&answer, marks, marks_count, keys, keys_count);
+    return answer;
+}
+
+moss_answer *moss_int_set_is_empty_wide(moss_answer *MOSS_RESTRICT answer, const uint8_t *MOSS_RESTRICT marks, uint64_t marks_count,
+    const uint64_t *MOSS_RESTRICT keys, uint64_t keys_count);
+MOSS_CALL moss_answer moss_int_set_is_empty(const uint8_t *MOSS_RESTRICT marks, size_t marks_count,
+    const uint64_t *MOSS_RESTRICT keys, size_t keys_count)
+{
+    moss_answer answer;
+    moss_int_set_is_empty_wide(&answer, marks, marks_count, keys, keys_count);
+    return answer;
+}
+
+moss_answer *moss_int_set_reserve_wide(moss_answer *MOSS_RESTRICT answer, const uint8_t *MOSS_RESTRICT marks, uint64_t marks_count,
+    const uint64_t *MOSS_RESTRICT keys, uint64_t keys_count, uint64_t asked);
+MOSS_CALL moss_answer moss_int_set_reserve(const uint8_t *MOSS_RESTRICT marks, size_t marks_count,
+    const uint64_t *MOSS_RESTRICT keys, size_t keys_count, uint64_t asked)
+{
+    moss_answer answer;
+    moss_int_set_reserve_wide(&answer, marks, marks_count, keys, keys_count, asked);
+    return answer;
+}
+
+moss_answer *moss_int_set_get_wide(moss_answer *MOSS_RESTRICT answer, const uint8_t *MOSS_RESTRICT marks, uint64_t marks_count,
+    const uint64_t *MOSS_RESTRICT keys, uint64_t keys_count, uint64_t key);
+MOSS_CALL moss_answer moss_int_set_get(const uint8_t *MOSS_RESTRICT marks, size_t marks_count,
+    const uint64_t *MOSS_RESTRICT keys, size_t keys_count, uint64_t key)
+{
+    moss_answer answer;
+    moss_int_set_get_wide(&answer, marks, marks_count, keys, keys_count, key);
+    return answer;
+}
+
+moss_answer *moss_int_set_contains_wide(moss_answer *MOSS_RESTRICT answer, const uint8_t *MOSS_RESTRICT marks, uint64_t marks_count,
+    const uint64_t *MOSS_RESTRICT keys, uint64_t keys_count, uint64_t key);
+MOSS_CALL moss_answer moss_int_set_contains(const uint8_t *MOSS_RESTRICT marks, size_t marks_count,
+    const uint64_t *MOSS_RESTRICT keys, size_t keys_count, uint64_t key)
+{
+    moss_answer answer;
+    moss_int_set_contains_wide(&answer, marks, marks_count, keys, keys_count, key);
+    return answer;
+}
+
+moss_answer *moss_int_set_insert_wide(moss_answer *MOSS_RESTRICT answer, uint8_t *MOSS_RESTRICT marks, uint64_t marks_count,
+    uint64_t *MOSS_RESTRICT keys, uint64_t keys_count, uint64_t key);
+MOSS_CALL moss_answer moss_int_set_insert(uint8_t *MOSS_RESTRICT marks, size_t marks_count,
+    uint64_t *MOSS_RESTRICT keys, size_t keys_count, uint64_t key)
+{
+    moss_answer answer;
+    moss_int_set_insert_wide(&answer, marks, marks_count, keys, keys_count, key);
+    return answer;
+}
+
+moss_answer *moss_int_set_remove_wide(moss_answer *MOSS_RESTRICT answer, uint8_t *MOSS_RESTRICT marks, uint64_t marks_count,
+    uint64_t *MOSS_RESTRICT keys, uint64_t keys_count, uint64_t key);
+MOSS_CALL moss_answer moss_int_set_remove(uint8_t *MOSS_RESTRICT marks, size_t marks_count,
+    uint64_t *MOSS_RESTRICT keys, size_t keys_count, uint64_t key)
+{
+    moss_answer answer;
+    moss_int_set_remove_wide(&answer, marks, marks_count, keys, keys_count, key);
+    return answer;
+}
+
+moss_answer *moss_int_set_copy_wide(moss_answer *MOSS_RESTRICT answer, uint8_t *MOSS_RESTRICT to_marks, uint64_t to_marks_count,
+    uint64_t *MOSS_RESTRICT to_keys, uint64_t to_keys_count, const uint8_t *MOSS_RESTRICT marks, uint64_t marks_count,
+    const uint64_t *MOSS_RESTRICT keys, uint64_t keys_count);
+MOSS_CALL moss_answer moss_int_set_copy(uint8_t *MOSS_RESTRICT to_marks, size_t to_marks_count,
+    uint64_t *MOSS_RESTRICT to_keys, size_t to_keys_count, const uint8_t *MOSS_RESTRICT marks, size_t marks_count,
+    const uint64_t *MOSS_RESTRICT keys, size_t keys_count)
+{
+    moss_answer answer;
+    moss_int_set_copy_wide(&answer, to_marks, to_marks_count, to_keys, to_keys_count, marks, marks_count, keys, keys_count);
+    return answer;
+}
+
+uint64_t moss_int_set_walk_start_wide(void);
+MOSS_CALL uint64_t moss_int_set_walk_start(void)
+{
+    return moss_int_set_walk_start_wide();
+}
+
+moss_answer *moss_int_set_step_wide(moss_answer *MOSS_RESTRICT answer, const uint8_t *MOSS_RESTRICT marks, uint64_t marks_count,
+    const uint64_t *MOSS_RESTRICT keys, uint64_t keys_count, uint64_t walk, uint64_t budget);
+MOSS_CALL moss_answer moss_int_set_step(const uint8_t *MOSS_RESTRICT marks, size_t marks_count,
+    const uint64_t *MOSS_RESTRICT keys, size_t keys_count, uint64_t walk, uint64_t budget)
+{
+    moss_answer answer;
+    moss_int_set_step_wide(&answer, marks, marks_count, keys, keys_count, walk, budget);
+    return answer;
+}
+
+moss_answer *moss_int_set_walk_on_wide(moss_answer *MOSS_RESTRICT answer, const uint8_t *MOSS_RESTRICT marks, uint64_t marks_count,
+    const uint64_t *MOSS_RESTRICT keys, uint64_t keys_count, uint64_t *MOSS_RESTRICT walk, uint64_t budget);
+MOSS_CALL moss_answer moss_int_set_walk_on(const uint8_t *MOSS_RESTRICT marks, size_t marks_count,
+    const uint64_t *MOSS_RESTRICT keys, size_t keys_count, uint64_t *MOSS_RESTRICT walk, uint64_t budget)
+{
+    moss_answer answer;
+    moss_int_set_walk_on_wide(&answer, marks, marks_count, keys, keys_count, walk, budget);
+    return answer;
+}
+/* end of wide calls of int_set */
+
+/* from the list: wide calls of byte_map */
+moss_answer *moss_byte_map_make_wide(moss_answer *MOSS_RESTRICT answer, uint8_t *MOSS_RESTRICT marks, uint64_t marks_count,
+    uint16_t *MOSS_RESTRICT offsets, uint64_t offsets_count, uint8_t *MOSS_RESTRICT lengths, uint64_t lengths_count,
+    uint64_t *MOSS_RESTRICT values, uint64_t values_count, uint8_t *MOSS_RESTRICT arena, uint64_t arena_count);
+MOSS_CALL moss_answer moss_byte_map_make(uint8_t *MOSS_RESTRICT marks, size_t marks_count,
+    uint16_t *MOSS_RESTRICT offsets, size_t offsets_count, uint8_t *MOSS_RESTRICT lengths, size_t lengths_count,
+    uint64_t *MOSS_RESTRICT values, size_t values_count, uint8_t *MOSS_RESTRICT arena, size_t arena_count)
+{
+    moss_answer answer;
+    moss_byte_map_make_wide(&answer, marks, marks_count, offsets, offsets_count, lengths, lengths_count, values, values_count,
+        arena, arena_count);
+    return answer;
+}
+
+moss_answer *moss_byte_map_clear_wide(moss_answer *MOSS_RESTRICT answer, uint8_t *MOSS_RESTRICT marks, uint64_t marks_count,
+    uint16_t *MOSS_RESTRICT offsets, uint64_t offsets_count, uint8_t *MOSS_RESTRICT lengths, uint64_t lengths_count,
+    uint64_t *MOSS_RESTRICT values, uint64_t values_count, uint8_t *MOSS_RESTRICT arena, uint64_t arena_count);
+MOSS_CALL moss_answer moss_byte_map_clear(uint8_t *MOSS_RESTRICT marks, size_t marks_count,
+    uint16_t *MOSS_RESTRICT offsets, size_t offsets_count, uint8_t *MOSS_RESTRICT lengths, size_t lengths_count,
+    uint64_t *MOSS_RESTRICT values, size_t values_count, uint8_t *MOSS_RESTRICT arena, size_t arena_count)
+{
+    moss_answer answer;
+    moss_byte_map_clear_wide(&answer, marks, marks_count, offsets, offsets_count, lengths, lengths_count, values, values_count,
+        arena, arena_count);
+    return answer;
+}
+
+moss_answer *moss_byte_map_capacity_wide(moss_answer *MOSS_RESTRICT answer,
+    const uint8_t *MOSS_RESTRICT marks, uint64_t marks_count, const uint16_t *MOSS_RESTRICT offsets, uint64_t offsets_count,
+    const uint8_t *MOSS_RESTRICT lengths, uint64_t lengths_count, const uint64_t *MOSS_RESTRICT values, uint64_t values_count,
+    const uint8_t *MOSS_RESTRICT arena, uint64_t arena_count);
+MOSS_CALL moss_answer moss_byte_map_capacity(const uint8_t *MOSS_RESTRICT marks, size_t marks_count,
+    const uint16_t *MOSS_RESTRICT offsets, size_t offsets_count, const uint8_t *MOSS_RESTRICT lengths, size_t lengths_count,
+    const uint64_t *MOSS_RESTRICT values, size_t values_count, const uint8_t *MOSS_RESTRICT arena, size_t arena_count)
+{
+    moss_answer answer;
+    moss_byte_map_capacity_wide(&answer, marks, marks_count, offsets, offsets_count, lengths, lengths_count, values, values_count,
+        arena, arena_count);
+    return answer;
+}
+
+moss_answer *moss_byte_map_len_wide(moss_answer *MOSS_RESTRICT answer, const uint8_t *MOSS_RESTRICT marks, uint64_t marks_count,
+    const uint16_t *MOSS_RESTRICT offsets, uint64_t offsets_count, const uint8_t *MOSS_RESTRICT lengths, uint64_t lengths_count,
+    const uint64_t *MOSS_RESTRICT values, uint64_t values_count, const uint8_t *MOSS_RESTRICT arena, uint64_t arena_count);
+MOSS_CALL moss_answer moss_byte_map_len(const uint8_t *MOSS_RESTRICT marks, size_t marks_count,
+    const uint16_t *MOSS_RESTRICT offsets, size_t offsets_count, const uint8_t *MOSS_RESTRICT lengths, size_t lengths_count,
+    const uint64_t *MOSS_RESTRICT values, size_t values_count, const uint8_t *MOSS_RESTRICT arena, size_t arena_count)
+{
+    moss_answer answer;
+    moss_byte_map_len_wide(&answer, marks, marks_count, offsets, offsets_count, lengths, lengths_count, values, values_count, arena,
+        arena_count);
+    return answer;
+}
+
+moss_answer *moss_byte_map_is_empty_wide(moss_answer *MOSS_RESTRICT answer,
+    const uint8_t *MOSS_RESTRICT marks, uint64_t marks_count, const uint16_t *MOSS_RESTRICT offsets, uint64_t offsets_count,
+    const uint8_t *MOSS_RESTRICT lengths, uint64_t lengths_count, const uint64_t *MOSS_RESTRICT values, uint64_t values_count,
+    const uint8_t *MOSS_RESTRICT arena, uint64_t arena_count);
+MOSS_CALL moss_answer moss_byte_map_is_empty(const uint8_t *MOSS_RESTRICT marks, size_t marks_count,
+    const uint16_t *MOSS_RESTRICT offsets, size_t offsets_count, const uint8_t *MOSS_RESTRICT lengths, size_t lengths_count,
+    const uint64_t *MOSS_RESTRICT values, size_t values_count, const uint8_t *MOSS_RESTRICT arena, size_t arena_count)
+{
+    moss_answer answer;
+    moss_byte_map_is_empty_wide(&answer, marks, marks_count, offsets, offsets_count, lengths, lengths_count, values, values_count,
+        arena, arena_count);
+    return answer;
+}
+
+moss_answer *moss_byte_map_reserve_wide(moss_answer *MOSS_RESTRICT answer, const uint8_t *MOSS_RESTRICT marks, uint64_t marks_count,
+    const uint16_t *MOSS_RESTRICT offsets, uint64_t offsets_count, const uint8_t *MOSS_RESTRICT lengths, uint64_t lengths_count,
+    const uint64_t *MOSS_RESTRICT values, uint64_t values_count, const uint8_t *MOSS_RESTRICT arena, uint64_t arena_count,
+    uint64_t asked);
+MOSS_CALL moss_answer moss_byte_map_reserve(const uint8_t *MOSS_RESTRICT marks, size_t marks_count,
+    const uint16_t *MOSS_RESTRICT offsets, size_t offsets_count, const uint8_t *MOSS_RESTRICT lengths, size_t lengths_count,
+    const uint64_t *MOSS_RESTRICT values, size_t values_count, const uint8_t *MOSS_RESTRICT arena, size_t arena_count,
+    uint64_t asked)
+{
+    moss_answer answer;
+    moss_byte_map_reserve_wide(&answer, marks, marks_count, offsets, offsets_count, lengths, lengths_count, values, values_count,
+        arena, arena_count, asked);
+    return answer;
+}
+
+moss_answer *moss_byte_map_get_wide(moss_answer *MOSS_RESTRICT answer, const uint8_t *MOSS_RESTRICT marks, uint64_t marks_count,
+    const uint16_t *MOSS_RESTRICT offsets, uint64_t offsets_count, const uint8_t *MOSS_RESTRICT lengths, uint64_t lengths_count,
+    const uint64_t *MOSS_RESTRICT values, uint64_t values_count, const uint8_t *MOSS_RESTRICT arena, uint64_t arena_count,
+    const uint8_t *MOSS_RESTRICT key, uint64_t key_length);
+MOSS_CALL moss_answer moss_byte_map_get(const uint8_t *MOSS_RESTRICT marks, size_t marks_count,
+    const uint16_t *MOSS_RESTRICT offsets, size_t offsets_count, const uint8_t *MOSS_RESTRICT lengths, size_t lengths_count,
+    const uint64_t *MOSS_RESTRICT values, size_t values_count, const uint8_t *MOSS_RESTRICT arena, size_t arena_count,
+    const uint8_t *MOSS_RESTRICT key, size_t key_length)
+{
+    moss_answer answer;
+    moss_byte_map_get_wide(&answer, marks, marks_count, offsets, offsets_count, lengths, lengths_count, values, values_count, arena,
+        arena_count, key, key_length);
+    return answer;
+}
+
+moss_answer *moss_byte_map_contains_key_wide(moss_answer *MOSS_RESTRICT answer,
+    const uint8_t *MOSS_RESTRICT marks, uint64_t marks_count, const uint16_t *MOSS_RESTRICT offsets, uint64_t offsets_count,
+    const uint8_t *MOSS_RESTRICT lengths, uint64_t lengths_count, const uint64_t *MOSS_RESTRICT values, uint64_t values_count,
+    const uint8_t *MOSS_RESTRICT arena, uint64_t arena_count, const uint8_t *MOSS_RESTRICT key, uint64_t key_length);
+MOSS_CALL moss_answer moss_byte_map_contains_key(const uint8_t *MOSS_RESTRICT marks, size_t marks_count,
+    const uint16_t *MOSS_RESTRICT offsets, size_t offsets_count, const uint8_t *MOSS_RESTRICT lengths, size_t lengths_count,
+    const uint64_t *MOSS_RESTRICT values, size_t values_count, const uint8_t *MOSS_RESTRICT arena, size_t arena_count,
+    const uint8_t *MOSS_RESTRICT key, size_t key_length)
+{
+    moss_answer answer;
+    moss_byte_map_contains_key_wide(&answer, marks, marks_count, offsets, offsets_count, lengths, lengths_count, values,
+        values_count, arena, arena_count, key, key_length);
+    return answer;
+}
+
+moss_answer *moss_byte_map_insert_wide(moss_answer *MOSS_RESTRICT answer, uint8_t *MOSS_RESTRICT marks, uint64_t marks_count,
+    uint16_t *MOSS_RESTRICT offsets, uint64_t offsets_count, uint8_t *MOSS_RESTRICT lengths, uint64_t lengths_count,
+    uint64_t *MOSS_RESTRICT values, uint64_t values_count, uint8_t *MOSS_RESTRICT arena, uint64_t arena_count,
+    const uint8_t *MOSS_RESTRICT key, uint64_t key_length, uint64_t value);
+MOSS_CALL moss_answer moss_byte_map_insert(uint8_t *MOSS_RESTRICT marks, size_t marks_count,
+    uint16_t *MOSS_RESTRICT offsets, size_t offsets_count, uint8_t *MOSS_RESTRICT lengths, size_t lengths_count,
+    uint64_t *MOSS_RESTRICT values, size_t values_count, uint8_t *MOSS_RESTRICT arena, size_t arena_count,
+    const uint8_t *MOSS_RESTRICT key, size_t key_length, uint64_t value)
+{
+    moss_answer answer;
+    moss_byte_map_insert_wide(&answer, marks, marks_count, offsets, offsets_count, lengths, lengths_count, values, values_count,
+        arena, arena_count, key, key_length, value);
+    return answer;
+}
+
+moss_answer *moss_byte_map_remove_wide(moss_answer *MOSS_RESTRICT answer, uint8_t *MOSS_RESTRICT marks, uint64_t marks_count,
+    uint16_t *MOSS_RESTRICT offsets, uint64_t offsets_count, uint8_t *MOSS_RESTRICT lengths, uint64_t lengths_count,
+    uint64_t *MOSS_RESTRICT values, uint64_t values_count, uint8_t *MOSS_RESTRICT arena, uint64_t arena_count,
+    const uint8_t *MOSS_RESTRICT key, uint64_t key_length);
+MOSS_CALL moss_answer moss_byte_map_remove(uint8_t *MOSS_RESTRICT marks, size_t marks_count,
+    uint16_t *MOSS_RESTRICT offsets, size_t offsets_count, uint8_t *MOSS_RESTRICT lengths, size_t lengths_count,
+    uint64_t *MOSS_RESTRICT values, size_t values_count, uint8_t *MOSS_RESTRICT arena, size_t arena_count,
+    const uint8_t *MOSS_RESTRICT key, size_t key_length)
+{
+    moss_answer answer;
+    moss_byte_map_remove_wide(&answer, marks, marks_count, offsets, offsets_count, lengths, lengths_count, values, values_count,
+        arena, arena_count, key, key_length);
+    return answer;
+}
+
+moss_answer *moss_byte_map_copy_wide(moss_answer *MOSS_RESTRICT answer, uint8_t *MOSS_RESTRICT to_marks, uint64_t to_marks_count,
+    uint16_t *MOSS_RESTRICT to_offsets, uint64_t to_offsets_count, uint8_t *MOSS_RESTRICT to_lengths, uint64_t to_lengths_count,
+    uint64_t *MOSS_RESTRICT to_values, uint64_t to_values_count, uint8_t *MOSS_RESTRICT to_arena, uint64_t to_arena_count,
+    const uint8_t *MOSS_RESTRICT marks, uint64_t marks_count, const uint16_t *MOSS_RESTRICT offsets, uint64_t offsets_count,
+    const uint8_t *MOSS_RESTRICT lengths, uint64_t lengths_count, const uint64_t *MOSS_RESTRICT values, uint64_t values_count,
+    const uint8_t *MOSS_RESTRICT arena, uint64_t arena_count);
+MOSS_CALL moss_answer moss_byte_map_copy(uint8_t *MOSS_RESTRICT to_marks, size_t to_marks_count,
+    uint16_t *MOSS_RESTRICT to_offsets, size_t to_offsets_count, uint8_t *MOSS_RESTRICT to_lengths, size_t to_lengths_count,
+    uint64_t *MOSS_RESTRICT to_values, size_t to_values_count, uint8_t *MOSS_RESTRICT to_arena, size_t to_arena_count,
+    const uint8_t *MOSS_RESTRICT marks, size_t marks_count, const uint16_t *MOSS_RESTRICT offsets, size_t offsets_count,
+    const uint8_t *MOSS_RESTRICT lengths, size_t lengths_count, const uint64_t *MOSS_RESTRICT values, size_t values_count,
+    const uint8_t *MOSS_RESTRICT arena, size_t arena_count)
+{
+    moss_answer answer;
+    moss_byte_map_copy_wide(&answer, to_marks, to_marks_count, to_offsets, to_offsets_count, to_lengths, to_lengths_count,
+        to_values, to_values_count, to_arena, to_arena_count, marks, marks_count, offsets, offsets_count, lengths, lengths_count,
+        values, values_count, arena, arena_count);
+    return answer;
+}
+
+moss_answer *moss_byte_map_union_prefer_right_wide(moss_answer *MOSS_RESTRICT answer,
+    uint8_t *MOSS_RESTRICT marks, uint64_t marks_count, uint16_t *MOSS_RESTRICT offsets, uint64_t offsets_count,
+    uint8_t *MOSS_RESTRICT lengths, uint64_t lengths_count, uint64_t *MOSS_RESTRICT values, uint64_t values_count,
+    uint8_t *MOSS_RESTRICT arena, uint64_t arena_count, const uint8_t *MOSS_RESTRICT right_marks, uint64_t right_marks_count,
+    const uint16_t *MOSS_RESTRICT right_offsets, uint64_t right_offsets_count,
+    const uint8_t *MOSS_RESTRICT right_lengths, uint64_t right_lengths_count,
+    const uint64_t *MOSS_RESTRICT right_values, uint64_t right_values_count,
+    const uint8_t *MOSS_RESTRICT right_arena, uint64_t right_arena_count);
+MOSS_CALL moss_answer moss_byte_map_union_prefer_right(uint8_t *MOSS_RESTRICT marks, size_t marks_count,
+    uint16_t *MOSS_RESTRICT offsets, size_t offsets_count, uint8_t *MOSS_RESTRICT lengths, size_t lengths_count,
+    uint64_t *MOSS_RESTRICT values, size_t values_count, uint8_t *MOSS_RESTRICT arena, size_t arena_count,
+    const uint8_t *MOSS_RESTRICT right_marks, size_t right_marks_count,
+    const uint16_t *MOSS_RESTRICT right_offsets, size_t right_offsets_count,
+    const uint8_t *MOSS_RESTRICT right_lengths, size_t right_lengths_count,
+    const uint64_t *MOSS_RESTRICT right_values, size_t right_values_count,
+    const uint8_t *MOSS_RESTRICT right_arena, size_t right_arena_count)
+{
+    moss_answer answer;
+    moss_byte_map_union_prefer_right_wide(&answer, marks, marks_count, offsets, offsets_count, lengths, lengths_count, values,
+        values_count, arena, arena_count, right_marks, right_marks_count, right_offsets, right_offsets_count, right_lengths,
+        right_lengths_count, right_values, right_values_count, right_arena, right_arena_count);
+    return answer;
+}
+
+moss_answer *moss_byte_map_entry_wide(moss_answer *MOSS_RESTRICT answer, const uint8_t *MOSS_RESTRICT marks, uint64_t marks_count,
+    const uint16_t *MOSS_RESTRICT offsets, uint64_t offsets_count, const uint8_t *MOSS_RESTRICT lengths, uint64_t lengths_count,
+    const uint64_t *MOSS_RESTRICT values, uint64_t values_count, const uint8_t *MOSS_RESTRICT arena, uint64_t arena_count,
+    const uint8_t *MOSS_RESTRICT key, uint64_t key_length);
+MOSS_CALL moss_answer moss_byte_map_entry(const uint8_t *MOSS_RESTRICT marks, size_t marks_count,
+    const uint16_t *MOSS_RESTRICT offsets, size_t offsets_count, const uint8_t *MOSS_RESTRICT lengths, size_t lengths_count,
+    const uint64_t *MOSS_RESTRICT values, size_t values_count, const uint8_t *MOSS_RESTRICT arena, size_t arena_count,
+    const uint8_t *MOSS_RESTRICT key, size_t key_length)
+{
+    moss_answer answer;
+    moss_byte_map_entry_wide(&answer, marks, marks_count, offsets, offsets_count, lengths, lengths_count, values, values_count,
+        arena, arena_count, key, key_length);
+    return answer;
+}
+
+moss_answer *moss_byte_map_occupied_get_wide(moss_answer *MOSS_RESTRICT answer,
+    const uint8_t *MOSS_RESTRICT marks, uint64_t marks_count, const uint16_t *MOSS_RESTRICT offsets, uint64_t offsets_count,
+    const uint8_t *MOSS_RESTRICT lengths, uint64_t lengths_count, const uint64_t *MOSS_RESTRICT values, uint64_t values_count,
+    const uint8_t *MOSS_RESTRICT arena, uint64_t arena_count, uint64_t slot, const uint8_t *MOSS_RESTRICT key, uint64_t key_length);
+MOSS_CALL moss_answer moss_byte_map_occupied_get(const uint8_t *MOSS_RESTRICT marks, size_t marks_count,
+    const uint16_t *MOSS_RESTRICT offsets, size_t offsets_count, const uint8_t *MOSS_RESTRICT lengths, size_t lengths_count,
+    const uint64_t *MOSS_RESTRICT values, size_t values_count, const uint8_t *MOSS_RESTRICT arena, size_t arena_count,
+    uint64_t slot, const uint8_t *MOSS_RESTRICT key, size_t key_length)
+{
+    moss_answer answer;
+    moss_byte_map_occupied_get_wide(&answer, marks, marks_count, offsets, offsets_count, lengths, lengths_count, values,
+        values_count, arena, arena_count, slot, key, key_length);
+    return answer;
+}
+
+moss_answer *moss_byte_map_occupied_set_wide(moss_answer *MOSS_RESTRICT answer, uint8_t *MOSS_RESTRICT marks, uint64_t marks_count,
+    uint16_t *MOSS_RESTRICT offsets, uint64_t offsets_count, uint8_t *MOSS_RESTRICT lengths, uint64_t lengths_count,
+    uint64_t *MOSS_RESTRICT values, uint64_t values_count, uint8_t *MOSS_RESTRICT arena, uint64_t arena_count, uint64_t slot,
+    const uint8_t *MOSS_RESTRICT key, uint64_t key_length, uint64_t value);
+MOSS_CALL moss_answer moss_byte_map_occupied_set(uint8_t *MOSS_RESTRICT marks, size_t marks_count,
+    uint16_t *MOSS_RESTRICT offsets, size_t offsets_count, uint8_t *MOSS_RESTRICT lengths, size_t lengths_count,
+    uint64_t *MOSS_RESTRICT values, size_t values_count, uint8_t *MOSS_RESTRICT arena, size_t arena_count, uint64_t slot,
+    const uint8_t *MOSS_RESTRICT key, size_t key_length, uint64_t value)
+{
+    moss_answer answer;
+    moss_byte_map_occupied_set_wide(&answer, marks, marks_count, offsets, offsets_count, lengths, lengths_count, values,
+        values_count, arena, arena_count, slot, key, key_length, value);
+    return answer;
+}
+
+moss_answer *moss_byte_map_occupied_remove_wide(moss_answer *MOSS_RESTRICT answer,
+    uint8_t *MOSS_RESTRICT marks, uint64_t marks_count, uint16_t *MOSS_RESTRICT offsets, uint64_t offsets_count,
+    uint8_t *MOSS_RESTRICT lengths, uint64_t lengths_count, uint64_t *MOSS_RESTRICT values, uint64_t values_count,
+    uint8_t *MOSS_RESTRICT arena, uint64_t arena_count, uint64_t slot, const uint8_t *MOSS_RESTRICT key, uint64_t key_length);
+MOSS_CALL moss_answer moss_byte_map_occupied_remove(uint8_t *MOSS_RESTRICT marks, size_t marks_count,
+    uint16_t *MOSS_RESTRICT offsets, size_t offsets_count, uint8_t *MOSS_RESTRICT lengths, size_t lengths_count,
+    uint64_t *MOSS_RESTRICT values, size_t values_count, uint8_t *MOSS_RESTRICT arena, size_t arena_count, uint64_t slot,
+    const uint8_t *MOSS_RESTRICT key, size_t key_length)
+{
+    moss_answer answer;
+    moss_byte_map_occupied_remove_wide(&answer, marks, marks_count, offsets, offsets_count, lengths, lengths_count, values,
+        values_count, arena, arena_count, slot, key, key_length);
+    return answer;
+}
+
+moss_answer *moss_byte_map_occupied_remove_entry_wide(moss_answer *MOSS_RESTRICT answer,
+    uint8_t *MOSS_RESTRICT marks, uint64_t marks_count, uint16_t *MOSS_RESTRICT offsets, uint64_t offsets_count,
+    uint8_t *MOSS_RESTRICT lengths, uint64_t lengths_count, uint64_t *MOSS_RESTRICT values, uint64_t values_count,
+    uint8_t *MOSS_RESTRICT arena, uint64_t arena_count, uint64_t slot, const uint8_t *MOSS_RESTRICT key, uint64_t key_length);
+MOSS_CALL moss_answer moss_byte_map_occupied_remove_entry(uint8_t *MOSS_RESTRICT marks, size_t marks_count,
+    uint16_t *MOSS_RESTRICT offsets, size_t offsets_count, uint8_t *MOSS_RESTRICT lengths, size_t lengths_count,
+    uint64_t *MOSS_RESTRICT values, size_t values_count, uint8_t *MOSS_RESTRICT arena, size_t arena_count, uint64_t slot,
+    const uint8_t *MOSS_RESTRICT key, size_t key_length)
+{
+    moss_answer answer;
+    moss_byte_map_occupied_remove_entry_wide(&answer, marks, marks_count, offsets, offsets_count, lengths, lengths_count, values,
+        values_count, arena, arena_count, slot, key, key_length);
+    return answer;
+}
+
+moss_answer *moss_byte_map_vacant_insert_wide(moss_answer *MOSS_RESTRICT answer, uint8_t *MOSS_RESTRICT marks, uint64_t marks_count,
+    uint16_t *MOSS_RESTRICT offsets, uint64_t offsets_count, uint8_t *MOSS_RESTRICT lengths, uint64_t lengths_count,
+    uint64_t *MOSS_RESTRICT values, uint64_t values_count, uint8_t *MOSS_RESTRICT arena, uint64_t arena_count, uint64_t slot,
+    const uint8_t *MOSS_RESTRICT key, uint64_t key_length, uint64_t value);
+MOSS_CALL moss_answer moss_byte_map_vacant_insert(uint8_t *MOSS_RESTRICT marks, size_t marks_count,
+    uint16_t *MOSS_RESTRICT offsets, size_t offsets_count, uint8_t *MOSS_RESTRICT lengths, size_t lengths_count,
+    uint64_t *MOSS_RESTRICT values, size_t values_count, uint8_t *MOSS_RESTRICT arena, size_t arena_count, uint64_t slot,
+    const uint8_t *MOSS_RESTRICT key, size_t key_length, uint64_t value)
+{
+    moss_answer answer;
+    moss_byte_map_vacant_insert_wide(&answer, marks, marks_count, offsets, offsets_count, lengths, lengths_count, values,
+        values_count, arena, arena_count, slot, key, key_length, value);
+    return answer;
+}
+
+moss_answer *moss_byte_map_or_insert_wide(moss_answer *MOSS_RESTRICT answer, uint8_t *MOSS_RESTRICT marks, uint64_t marks_count,
+    uint16_t *MOSS_RESTRICT offsets, uint64_t offsets_count, uint8_t *MOSS_RESTRICT lengths, uint64_t lengths_count,
+    uint64_t *MOSS_RESTRICT values, uint64_t values_count, uint8_t *MOSS_RESTRICT arena, uint64_t arena_count, uint64_t which,
+    uint64_t slot, const uint8_t *MOSS_RESTRICT key, uint64_t key_length, uint64_t value);
+MOSS_CALL moss_answer moss_byte_map_or_insert(uint8_t *MOSS_RESTRICT marks, size_t marks_count,
+    uint16_t *MOSS_RESTRICT offsets, size_t offsets_count, uint8_t *MOSS_RESTRICT lengths, size_t lengths_count,
+    uint64_t *MOSS_RESTRICT values, size_t values_count, uint8_t *MOSS_RESTRICT arena, size_t arena_count, uint64_t which,
+    uint64_t slot, const uint8_t *MOSS_RESTRICT key, size_t key_length, uint64_t value)
+{
+    moss_answer answer;
+    moss_byte_map_or_insert_wide(&answer, marks, marks_count, offsets, offsets_count, lengths, lengths_count, values, values_count,
+        arena, arena_count, which, slot, key, key_length, value);
+    return answer;
+}
+
+moss_answer *moss_byte_map_insert_entry_wide(moss_answer *MOSS_RESTRICT answer, uint8_t *MOSS_RESTRICT marks, uint64_t marks_count,
+    uint16_t *MOSS_RESTRICT offsets, uint64_t offsets_count, uint8_t *MOSS_RESTRICT lengths, uint64_t lengths_count,
+    uint64_t *MOSS_RESTRICT values, uint64_t values_count, uint8_t *MOSS_RESTRICT arena, uint64_t arena_count, uint64_t which,
+    uint64_t slot, const uint8_t *MOSS_RESTRICT key, uint64_t key_length, uint64_t value);
+MOSS_CALL moss_answer moss_byte_map_insert_entry(uint8_t *MOSS_RESTRICT marks, size_t marks_count,
+    uint16_t *MOSS_RESTRICT offsets, size_t offsets_count, uint8_t *MOSS_RESTRICT lengths, size_t lengths_count,
+    uint64_t *MOSS_RESTRICT values, size_t values_count, uint8_t *MOSS_RESTRICT arena, size_t arena_count, uint64_t which,
+    uint64_t slot, const uint8_t *MOSS_RESTRICT key, size_t key_length, uint64_t value)
+{
+    moss_answer answer;
+    moss_byte_map_insert_entry_wide(&answer, marks, marks_count, offsets, offsets_count, lengths, lengths_count, values,
+        values_count, arena, arena_count, which, slot, key, key_length, value);
+    return answer;
+}
+
+uint64_t moss_byte_map_walk_start_wide(void);
+MOSS_CALL uint64_t moss_byte_map_walk_start(void)
+{
+    return moss_byte_map_walk_start_wide();
+}
+
+moss_answer *moss_byte_map_step_wide(moss_answer *MOSS_RESTRICT answer, const uint8_t *MOSS_RESTRICT marks, uint64_t marks_count,
+    const uint16_t *MOSS_RESTRICT offsets, uint64_t offsets_count, const uint8_t *MOSS_RESTRICT lengths, uint64_t lengths_count,
+    const uint64_t *MOSS_RESTRICT values, uint64_t values_count, const uint8_t *MOSS_RESTRICT arena, uint64_t arena_count,
+    uint64_t walk, uint64_t budget);
+MOSS_CALL moss_answer moss_byte_map_step(const uint8_t *MOSS_RESTRICT marks, size_t marks_count,
+    const uint16_t *MOSS_RESTRICT offsets, size_t offsets_count, const uint8_t *MOSS_RESTRICT lengths, size_t lengths_count,
+    const uint64_t *MOSS_RESTRICT values, size_t values_count, const uint8_t *MOSS_RESTRICT arena, size_t arena_count,
+    uint64_t walk, uint64_t budget)
+{
+    moss_answer answer;
+    moss_byte_map_step_wide(&answer, marks, marks_count, offsets, offsets_count, lengths, lengths_count, values, values_count,
+        arena, arena_count, walk, budget);
+    return answer;
+}
+
+moss_answer *moss_byte_map_walk_on_wide(moss_answer *MOSS_RESTRICT answer, const uint8_t *MOSS_RESTRICT marks, uint64_t marks_count,
+    const uint16_t *MOSS_RESTRICT offsets, uint64_t offsets_count, const uint8_t *MOSS_RESTRICT lengths, uint64_t lengths_count,
+    const uint64_t *MOSS_RESTRICT values, uint64_t values_count, const uint8_t *MOSS_RESTRICT arena, uint64_t arena_count,
+    uint64_t *MOSS_RESTRICT walk, uint64_t budget);
+MOSS_CALL moss_answer moss_byte_map_walk_on(const uint8_t *MOSS_RESTRICT marks, size_t marks_count,
+    const uint16_t *MOSS_RESTRICT offsets, size_t offsets_count, const uint8_t *MOSS_RESTRICT lengths, size_t lengths_count,
+    const uint64_t *MOSS_RESTRICT values, size_t values_count, const uint8_t *MOSS_RESTRICT arena, size_t arena_count,
+    uint64_t *MOSS_RESTRICT walk, uint64_t budget)
+{
+    moss_answer answer;
+    moss_byte_map_walk_on_wide(&answer, marks, marks_count, offsets, offsets_count, lengths, lengths_count, values, values_count,
+        arena, arena_count, walk, budget);
+    return answer;
+}
+/* end of wide calls of byte_map */
+
+/* from the list: wide calls of byte_set */
+moss_answer *moss_byte_set_make_wide(moss_answer *MOSS_RESTRICT answer, uint8_t *MOSS_RESTRICT marks, uint64_t marks_count,
+    uint16_t *MOSS_RESTRICT offsets, uint64_t offsets_count, uint8_t *MOSS_RESTRICT lengths, uint64_t lengths_count,
+    uint8_t *MOSS_RESTRICT arena, uint64_t arena_count);
+MOSS_CALL moss_answer moss_byte_set_make(uint8_t *MOSS_RESTRICT marks, size_t marks_count,
+    uint16_t *MOSS_RESTRICT offsets, size_t offsets_count, uint8_t *MOSS_RESTRICT lengths, size_t lengths_count,
+    uint8_t *MOSS_RESTRICT arena, size_t arena_count)
+{
+    moss_answer answer;
+    moss_byte_set_make_wide(&answer, marks, marks_count, offsets, offsets_count, lengths, lengths_count, arena, arena_count);
+    return answer;
+}
+
+moss_answer *moss_byte_set_clear_wide(moss_answer *MOSS_RESTRICT answer, uint8_t *MOSS_RESTRICT marks, uint64_t marks_count,
+    uint16_t *MOSS_RESTRICT offsets, uint64_t offsets_count, uint8_t *MOSS_RESTRICT lengths, uint64_t lengths_count,
+    uint8_t *MOSS_RESTRICT arena, uint64_t arena_count);
+MOSS_CALL moss_answer moss_byte_set_clear(uint8_t *MOSS_RESTRICT marks, size_t marks_count,
+    uint16_t *MOSS_RESTRICT offsets, size_t offsets_count, uint8_t *MOSS_RESTRICT lengths, size_t lengths_count,
+    uint8_t *MOSS_RESTRICT arena, size_t arena_count)
+{
+    moss_answer answer;
+    moss_byte_set_clear_wide(&answer, marks, marks_count, offsets, offsets_count, lengths, lengths_count, arena, arena_count);
+    return answer;
+}
+
+moss_answer *moss_byte_set_capacity_wide(moss_answer *MOSS_RESTRICT answer,
+    const uint8_t *MOSS_RESTRICT marks, uint64_t marks_count, const uint16_t *MOSS_RESTRICT offsets, uint64_t offsets_count,
+    const uint8_t *MOSS_RESTRICT lengths, uint64_t lengths_count, const uint8_t *MOSS_RESTRICT arena, uint64_t arena_count);
+MOSS_CALL moss_answer moss_byte_set_capacity(const uint8_t *MOSS_RESTRICT marks, size_t marks_count,
+    const uint16_t *MOSS_RESTRICT offsets, size_t offsets_count, const uint8_t *MOSS_RESTRICT lengths, size_t lengths_count,
+    const uint8_t *MOSS_RESTRICT arena, size_t arena_count)
+{
+    moss_answer answer;
+    moss_byte_set_capacity_wide(&answer, marks, marks_count, offsets, offsets_count, lengths, lengths_count, arena, arena_count);
+    return answer;
+}
+
+moss_answer *moss_byte_set_len_wide(moss_answer *MOSS_RESTRICT answer, const uint8_t *MOSS_RESTRICT marks, uint64_t marks_count,
+    const uint16_t *MOSS_RESTRICT offsets, uint64_t offsets_count, const uint8_t *MOSS_RESTRICT lengths, uint64_t lengths_count,
+    const uint8_t *MOSS_RESTRICT arena, uint64_t arena_count);
+MOSS_CALL moss_answer moss_byte_set_len(const uint8_t *MOSS_RESTRICT marks, size_t marks_count,
+    const uint16_t *MOSS_RESTRICT offsets, size_t offsets_count, const uint8_t *MOSS_RESTRICT lengths, size_t lengths_count,
+    const uint8_t *MOSS_RESTRICT arena, size_t arena_count)
+{
+    moss_answer answer;
+    moss_byte_set_len_wide(&answer, marks, marks_count, offsets, offsets_count, lengths, lengths_count, arena, arena_count);
+    return answer;
+}
+
+moss_answer *moss_byte_set_is_empty_wide(moss_answer *MOSS_RESTRICT answer,
+    const uint8_t *MOSS_RESTRICT marks, uint64_t marks_count, const uint16_t *MOSS_RESTRICT offsets, uint64_t offsets_count,
+    const uint8_t *MOSS_RESTRICT lengths, uint64_t lengths_count, const uint8_t *MOSS_RESTRICT arena, uint64_t arena_count);
+MOSS_CALL moss_answer moss_byte_set_is_empty(const uint8_t *MOSS_RESTRICT marks, size_t marks_count,
+    const uint16_t *MOSS_RESTRICT offsets, size_t offsets_count, const uint8_t *MOSS_RESTRICT lengths, size_t lengths_count,
+    const uint8_t *MOSS_RESTRICT arena, size_t arena_count)
+{
+    moss_answer answer;
+    moss_byte_set_is_empty_wide(&answer, marks, marks_count, offsets, offsets_count, lengths, lengths_count, arena, arena_count);
+    return answer;
+}
+
+moss_answer *moss_byte_set_reserve_wide(moss_answer *MOSS_RESTRICT answer, const uint8_t *MOSS_RESTRICT marks, uint64_t marks_count,
+    const uint16_t *MOSS_RESTRICT offsets, uint64_t offsets_count, const uint8_t *MOSS_RESTRICT lengths, uint64_t lengths_count,
+    const uint8_t *MOSS_RESTRICT arena, uint64_t arena_count, uint64_t asked);
+MOSS_CALL moss_answer moss_byte_set_reserve(const uint8_t *MOSS_RESTRICT marks, size_t marks_count,
+    const uint16_t *MOSS_RESTRICT offsets, size_t offsets_count, const uint8_t *MOSS_RESTRICT lengths, size_t lengths_count,
+    const uint8_t *MOSS_RESTRICT arena, size_t arena_count, uint64_t asked)
+{
+    moss_answer answer;
+    moss_byte_set_reserve_wide(&answer, marks, marks_count, offsets, offsets_count, lengths, lengths_count, arena, arena_count,
+        asked);
+    return answer;
+}
+
+moss_answer *moss_byte_set_get_wide(moss_answer *MOSS_RESTRICT answer, const uint8_t *MOSS_RESTRICT marks, uint64_t marks_count,
+    const uint16_t *MOSS_RESTRICT offsets, uint64_t offsets_count, const uint8_t *MOSS_RESTRICT lengths, uint64_t lengths_count,
+    const uint8_t *MOSS_RESTRICT arena, uint64_t arena_count, const uint8_t *MOSS_RESTRICT key, uint64_t key_length);
+MOSS_CALL moss_answer moss_byte_set_get(const uint8_t *MOSS_RESTRICT marks, size_t marks_count,
+    const uint16_t *MOSS_RESTRICT offsets, size_t offsets_count, const uint8_t *MOSS_RESTRICT lengths, size_t lengths_count,
+    const uint8_t *MOSS_RESTRICT arena, size_t arena_count, const uint8_t *MOSS_RESTRICT key, size_t key_length)
+{
+    moss_answer answer;
+    moss_byte_set_get_wide(&answer, marks, marks_count, offsets, offsets_count, lengths, lengths_count, arena, arena_count, key,
+        key_length);
+    return answer;
+}
+
+moss_answer *moss_byte_set_contains_wide(moss_answer *MOSS_RESTRICT answer,
+    const uint8_t *MOSS_RESTRICT marks, uint64_t marks_count, const uint16_t *MOSS_RESTRICT offsets, uint64_t offsets_count,
+    const uint8_t *MOSS_RESTRICT lengths, uint64_t lengths_count, const uint8_t *MOSS_RESTRICT arena, uint64_t arena_count,
+    const uint8_t *MOSS_RESTRICT key, uint64_t key_length);
+MOSS_CALL moss_answer moss_byte_set_contains(const uint8_t *MOSS_RESTRICT marks, size_t marks_count,
+    const uint16_t *MOSS_RESTRICT offsets, size_t offsets_count, const uint8_t *MOSS_RESTRICT lengths, size_t lengths_count,
+    const uint8_t *MOSS_RESTRICT arena, size_t arena_count, const uint8_t *MOSS_RESTRICT key, size_t key_length)
+{
+    moss_answer answer;
+    moss_byte_set_contains_wide(&answer, marks, marks_count, offsets, offsets_count, lengths, lengths_count, arena, arena_count,
+        key, key_length);
+    return answer;
+}
+
+moss_answer *moss_byte_set_insert_wide(moss_answer *MOSS_RESTRICT answer, uint8_t *MOSS_RESTRICT marks, uint64_t marks_count,
+    uint16_t *MOSS_RESTRICT offsets, uint64_t offsets_count, uint8_t *MOSS_RESTRICT lengths, uint64_t lengths_count,
+    uint8_t *MOSS_RESTRICT arena, uint64_t arena_count, const uint8_t *MOSS_RESTRICT key, uint64_t key_length);
+MOSS_CALL moss_answer moss_byte_set_insert(uint8_t *MOSS_RESTRICT marks, size_t marks_count,
+    uint16_t *MOSS_RESTRICT offsets, size_t offsets_count, uint8_t *MOSS_RESTRICT lengths, size_t lengths_count,
+    uint8_t *MOSS_RESTRICT arena, size_t arena_count, const uint8_t *MOSS_RESTRICT key, size_t key_length)
+{
+    moss_answer answer;
+    moss_byte_set_insert_wide(&answer, marks, marks_count, offsets, offsets_count, lengths, lengths_count, arena, arena_count, key,
+        key_length);
+    return answer;
+}
+
+moss_answer *moss_byte_set_remove_wide(moss_answer *MOSS_RESTRICT answer, uint8_t *MOSS_RESTRICT marks, uint64_t marks_count,
+    uint16_t *MOSS_RESTRICT offsets, uint64_t offsets_count, uint8_t *MOSS_RESTRICT lengths, uint64_t lengths_count,
+    uint8_t *MOSS_RESTRICT arena, uint64_t arena_count, const uint8_t *MOSS_RESTRICT key, uint64_t key_length);
+MOSS_CALL moss_answer moss_byte_set_remove(uint8_t *MOSS_RESTRICT marks, size_t marks_count,
+    uint16_t *MOSS_RESTRICT offsets, size_t offsets_count, uint8_t *MOSS_RESTRICT lengths, size_t lengths_count,
+    uint8_t *MOSS_RESTRICT arena, size_t arena_count, const uint8_t *MOSS_RESTRICT key, size_t key_length)
+{
+    moss_answer answer;
+    moss_byte_set_remove_wide(&answer, marks, marks_count, offsets, offsets_count, lengths, lengths_count, arena, arena_count, key,
+        key_length);
+    return answer;
+}
+
+moss_answer *moss_byte_set_copy_wide(moss_answer *MOSS_RESTRICT answer, uint8_t *MOSS_RESTRICT to_marks, uint64_t to_marks_count,
+    uint16_t *MOSS_RESTRICT to_offsets, uint64_t to_offsets_count, uint8_t *MOSS_RESTRICT to_lengths, uint64_t to_lengths_count,
+    uint8_t *MOSS_RESTRICT to_arena, uint64_t to_arena_count, const uint8_t *MOSS_RESTRICT marks, uint64_t marks_count,
+    const uint16_t *MOSS_RESTRICT offsets, uint64_t offsets_count, const uint8_t *MOSS_RESTRICT lengths, uint64_t lengths_count,
+    const uint8_t *MOSS_RESTRICT arena, uint64_t arena_count);
+MOSS_CALL moss_answer moss_byte_set_copy(uint8_t *MOSS_RESTRICT to_marks, size_t to_marks_count,
+    uint16_t *MOSS_RESTRICT to_offsets, size_t to_offsets_count, uint8_t *MOSS_RESTRICT to_lengths, size_t to_lengths_count,
+    uint8_t *MOSS_RESTRICT to_arena, size_t to_arena_count, const uint8_t *MOSS_RESTRICT marks, size_t marks_count,
+    const uint16_t *MOSS_RESTRICT offsets, size_t offsets_count, const uint8_t *MOSS_RESTRICT lengths, size_t lengths_count,
+    const uint8_t *MOSS_RESTRICT arena, size_t arena_count)
+{
+    moss_answer answer;
+    moss_byte_set_copy_wide(&answer, to_marks, to_marks_count, to_offsets, to_offsets_count, to_lengths, to_lengths_count, to_arena,
+        to_arena_count, marks, marks_count, offsets, offsets_count, lengths, lengths_count, arena, arena_count);
+    return answer;
+}
+
+uint64_t moss_byte_set_walk_start_wide(void);
+MOSS_CALL uint64_t moss_byte_set_walk_start(void)
+{
+    return moss_byte_set_walk_start_wide();
+}
+
+moss_answer *moss_byte_set_step_wide(moss_answer *MOSS_RESTRICT answer, const uint8_t *MOSS_RESTRICT marks, uint64_t marks_count,
+    const uint16_t *MOSS_RESTRICT offsets, uint64_t offsets_count, const uint8_t *MOSS_RESTRICT lengths, uint64_t lengths_count,
+    const uint8_t *MOSS_RESTRICT arena, uint64_t arena_count, uint64_t walk, uint64_t budget);
+MOSS_CALL moss_answer moss_byte_set_step(const uint8_t *MOSS_RESTRICT marks, size_t marks_count,
+    const uint16_t *MOSS_RESTRICT offsets, size_t offsets_count, const uint8_t *MOSS_RESTRICT lengths, size_t lengths_count,
+    const uint8_t *MOSS_RESTRICT arena, size_t arena_count, uint64_t walk, uint64_t budget)
+{
+    moss_answer answer;
+    moss_byte_set_step_wide(&answer, marks, marks_count, offsets, offsets_count, lengths, lengths_count, arena, arena_count, walk,
+        budget);
+    return answer;
+}
+
+moss_answer *moss_byte_set_walk_on_wide(moss_answer *MOSS_RESTRICT answer, const uint8_t *MOSS_RESTRICT marks, uint64_t marks_count,
+    const uint16_t *MOSS_RESTRICT offsets, uint64_t offsets_count, const uint8_t *MOSS_RESTRICT lengths, uint64_t lengths_count,
+    const uint8_t *MOSS_RESTRICT arena, uint64_t arena_count, uint64_t *MOSS_RESTRICT walk, uint64_t budget);
+MOSS_CALL moss_answer moss_byte_set_walk_on(const uint8_t *MOSS_RESTRICT marks, size_t marks_count,
+    const uint16_t *MOSS_RESTRICT offsets, size_t offsets_count, const uint8_t *MOSS_RESTRICT lengths, size_t lengths_count,
+    const uint8_t *MOSS_RESTRICT arena, size_t arena_count, uint64_t *MOSS_RESTRICT walk, uint64_t budget)
+{
+    moss_answer answer;
+    moss_byte_set_walk_on_wide(&answer, marks, marks_count, offsets, offsets_count, lengths, lengths_count, arena, arena_count,
+        walk, budget);
+    return answer;
+}
+/* end of wide calls of byte_set */
+#endif
 
 #ifdef __cplusplus
 }

@@ -17,12 +17,14 @@ struct column {
     size_t told;
 };
 
-/* A lent array: `count` elements that end where a guard page starts, the filled bytes before them, and what it held before the call. */
+/* A lent array: `count` elements that end where a guard page starts, the filled bytes before them, and behind where there is no such page,
+ * and what it held before the call. */
 struct array {
     size_t count;
     uint8_t *pages;
     size_t mapped;
     size_t margin;
+    size_t behind;
     uint8_t *data;
     uint8_t *before;
 };

@@ -2,8 +2,10 @@
  * file again with the library's answers, so that `diff` against the input is the comparison. After each answer it prints the digest
  * of all lent memory, or with `--memory` the arrays that the call changed. Answers, digests and memory found in the input are
  * ignored. Lines `digest BYTES HEX16` and `home BYTES COUNT ANSWER` may stand between scenarios.
- * Every lent array ends at a page that may not be touched, and the bytes before it are looked at after each call.
- * Status 2: the file is malformed, or has a call that there is not. Status 3: an answer has a number that its case does not have, or memory beside an array changed. */
+ * Every lent array ends at a page that may not be touched, and the bytes before it are looked at after each call. With STATIC_ARRAYS, for
+ * processors without pages, lent arrays stand in static ones, and the bytes on both sides are looked at.
+ * Status 2: the file is malformed, or has a call that there is not. Status 3: an answer has a number that its case does not have, or
+ * memory beside an array changed. */
 #define _DEFAULT_SOURCE
 #include "kinds.h"
 
@@ -13,8 +15,10 @@
 #include <stdio.h>
 #include <stdlib.h>
 #include <string.h>
+#ifndef STATIC_ARRAYS
 #include <sys/mman.h>
 #include <unistd.h>
+#endif
 
 enum { MALFORMED = 2, WRONG = 3, MARGIN = 0xA5 };
 
@@ -101,6 +105,36 @@ static void stop(int status, const char *format, ...)
 
 /* ---- Lent memory ---- */
 
+#ifdef STATIC_ARRAYS
+/* At most four tables and a key are lent at once; an array has at most 4,097 words, and a few bytes on each side. */
+enum { BLOCKS = 4 * MOST_COLUMNS + 1, SIDE = 64, BLOCK = SIDE + 4097 * 8 + SIDE };
+static union {
+    uint64_t aligned;
+    uint8_t bytes[BLOCK];
+} blocks[BLOCKS], befores[BLOCKS];
+static bool taken[BLOCKS];
+
+static struct array lend(size_t count, size_t width)
+{
+    size_t block = 0, bytes = count * width;
+    while (block < BLOCKS && taken[block])
+        block++;
+    if (block == BLOCKS || bytes > BLOCK - 2 * SIDE)
+        stop(MALFORMED, "no memory");
+    taken[block] = true;
+    struct array a = {.count = count, .pages = blocks[block].bytes, .margin = SIDE, .behind = SIDE, .before = befores[block].bytes};
+    memset(a.pages, MARGIN, SIDE + bytes + SIDE);
+    a.data = bytes == 0 ? NULL : a.pages + SIDE;
+    return a;
+}
+
+static void take_back_array(struct array *a)
+{
+    for (size_t block = 0; block < BLOCKS; block++)
+        if (a->pages == blocks[block].bytes)
+            taken[block] = false;
+}
+#else
 static struct array lend(size_t count, size_t width)
 {
     size_t page = (size_t)sysconf(_SC_PAGESIZE), bytes = count * width, used = (bytes / page + 1) * page;
@@ -121,6 +155,7 @@ static void take_back_array(struct array *a)
         munmap(a->pages, a->mapped);
     free(a->before);
 }
+#endif
 
 static void take_back(const struct kind *kind, struct table *t)
 {
@@ -128,17 +163,21 @@ static void take_back(const struct kind *kind, struct table *t)
         take_back_array(&t->columns[c]);
 }
 
-static void test_margin(const struct array *a, const char *name)
+/* The filled bytes beside an array of `bytes` bytes. */
+static void test_margin(const struct array *a, size_t bytes, const char *name)
 {
     for (size_t i = 0; i < a->margin; i++)
         if (a->pages[i] != MARGIN)
             stop(WRONG, "memory before %s", name);
+    for (size_t i = 0; i < a->behind; i++)
+        if (a->pages[a->margin + bytes + i] != MARGIN)
+            stop(WRONG, "memory behind %s", name);
 }
 
 static void test_margins(const struct kind *kind, const struct table *t)
 {
     for (size_t c = 0; c < kind->columns; c++)
-        test_margin(&t->columns[c], kind->column[c].name);
+        test_margin(&t->columns[c], t->columns[c].count * kind->column[c].width, kind->column[c].name);
 }
 
 static uint64_t element(const struct array *a, size_t width, size_t i)
@@ -319,14 +358,14 @@ static void print_case(const struct kind *kind, const struct order *o, enum call
 
 static void print_array(const struct array *a, const struct column *column)
 {
-    printf("%s %zu", column->name, a->count);
+    printf("%s %lu", column->name, (unsigned long)a->count);
     for (size_t i = 0, run; i < a->count; i += run) {
         uint64_t value = element(a, column->width, i);
         for (run = 1; i + run < a->count && element(a, column->width, i + run) == value;)
             run++;
         if (run < 4)
             run = 1;
-        printf(run == 1 ? " %" PRIu64 : " %" PRIu64 "*%zu", value, run);
+        printf(run == 1 ? " %" PRIu64 : " %" PRIu64 "*%lu", value, (unsigned long)run);
     }
     putchar('\n');
 }
@@ -378,18 +417,30 @@ static uint64_t digest_table(uint64_t hash, const struct kind *kind, const struc
 
 /* ---- The file ---- */
 
+#ifdef STATIC_ARRAYS
+static char line[1 << 18];
+
+static bool read_line(void)
+{
+    return fgets(line, sizeof line, stdin) != NULL;
+}
+#else
 static char *line = NULL;
 static size_t line_room = 0;
+
+static bool read_line(void)
+{
+    return getline(&line, &line_room, stdin) >= 0;
+}
+#endif
 
 /* The next line without its newline; false at the end of the file. */
 static bool next_line(void)
 {
-    ssize_t length = getline(&line, &line_room, stdin);
-    if (length < 0)
+    if (!read_line())
         return false;
     line_number++;
-    if (length > 0 && line[length - 1] == '\n')
-        line[length - 1] = '\0';
+    line[strcspn(line, "\n")] = '\0';
     return true;
 }
 
@@ -466,12 +517,12 @@ static struct array read_array(const struct column *column)
             *star = '\0';
         uint64_t value = number_of(word, most);
         if (times > count - at)
-            stop(MALFORMED, "more elements than %zu", count);
+            stop(MALFORMED, "more elements than %lu", (unsigned long)count);
         for (; times > 0; times--)
             set_element(&a, column->width, at++, value);
     }
     if (at != count)
-        stop(MALFORMED, "fewer elements than %zu", count);
+        stop(MALFORMED, "fewer elements than %lu", (unsigned long)count);
     return a;
 }
 
@@ -638,7 +689,7 @@ static void play(const struct kind *kind, struct table tables[2], bool memory)
     moss_answer a = kind->functions[call](&o);
     for (int t = 0; t < 2; t++)
         test_margins(kind, &tables[t]);
-    test_margin(&o.bytes, "the key");
+    test_margin(&o.bytes, o.bytes.count, "the key");
     if (call == OCCUPIED_REMOVE)
         compare_remove_entry(kind, &o, &copy, &a);
     if (call == STEP)
@@ -721,6 +772,5 @@ int main(int count, char **words)
         else
             play_scenario(memory);
     }
-    free(line);
     return 0;
 }
