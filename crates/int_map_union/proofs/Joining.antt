@@ -26,9 +26,10 @@ use Rattle.int_slots.specs.Scanning.{scanning}
 use Rattle.int_slots.proofs.Bridge.{scan-bad, scan-live}
 use Rattle.int_slots.specs.Maps.{maps}
 use Rattle.kinds.specs.Told.{told}
-use Rattle.int_map_union.specs.Calls.{planOf, tableNeeds, allStored}
+use Rattle.int_map_union.specs.Calls.{planOf, tableNeeds}
 use Rattle.kinds.specs.Calls.{sizedOf, unionOf}
 use Rattle.int_slots.proofs.MapSizes.{same-long}
+use Rattle.int_store.specs.Stores.{allStored}
 
 -- keys take no arena bytes
 weightless : (g : ℕ → ℕ) → ((k : ℕ) → g k ≡ 0) → (t : Table ℕ ℕ) (n : ℕ) → total g t n ≡ 0
@@ -108,7 +109,7 @@ module _ (l r : IntMemory values) {a : Outcome} (p : outcomeNumbers a ≡ planOf
           (λ f. clash (cc (rw f at e)))
 
   -- and then all pairs go in
-  pub union-done : {m : IntMemory values} → a ≡ outcome.Done → m ≡ allStored l r (length (r .marks)) → told (outcomeNumbers outcome.Done) m ≡ unionOf maps l r
+  pub union-done : {m : IntMemory values} → a ≡ outcome.Done → m ≡ allStored maps l r (length (r .marks)) → told (outcomeNumbers outcome.Done) m ≡ unionOf maps l r
   unfolding planOf unionOf after-union allStored acted doneSaid outcomeNumbers
   union-done q e = rw (plan-ok (union maps l r) p q .1) (ap (λ m. told (outcomeNumbers outcome.Done) m) e)
 

@@ -1,5 +1,4 @@
 -- The laws of the integer map's union.
 pub mod Needing
-pub mod Storing
 pub mod Joining
 pub mod Settled

@@ -1,8 +1,8 @@
--- The parts that the union of integer maps takes one after the other: the theory's definitions, at this store.
+-- The tests that the union of integer maps makes one after the other: the theory's definitions, at this store.
 use Prim.Native.Nat.{ℕ}
 use mathlib.Core.Bool.{cond}
-use Rattle.model.specs.Slots.{weigh, total, pairOf, pairs}
-use Rattle.model.specs.Calls.{storeAll, lacking, union}
+use Rattle.model.specs.Slots.{weigh, total}
+use Rattle.model.specs.Calls.{lacking, union}
 use Rattle.answers.specs.declared.Numbers.{Numbers}
 use Rattle.answers.specs.Said.{doneSaid}
 use Rattle.kinds.specs.Columns.{values}
@@ -21,11 +21,3 @@ slotNeeds l mark key = weigh (λ k. cond (lacking maps l k) 1 0) (cell mark key 
 -- What the first n slots of the right need.
 unfoldable pub tableNeeds : IntMemory values → IntMemory values → ℕ → ℕ
 tableNeeds l r n = total (λ k. cond (lacking maps l k) 1 0) (maps .slots r) n
-
--- The insert rule for the pair of a slot with this mark, key and value.
-unfoldable pub slotStored : IntMemory values → ℕ → ℕ → ℕ → IntMemory values
-slotStored l mark key value = storeAll maps l (pairOf (cell mark key value))
-
--- The insert rule for the pairs of the first n slots of the right.
-unfoldable pub allStored : IntMemory values → IntMemory values → ℕ → IntMemory values
-allStored l r n = storeAll maps l (pairs (maps .slots r) n)

@@ -2,12 +2,11 @@
 ghost use mathlib.Core.Path.{_≡_};
 ghost use mathlib.Core.Bool.{true};
 ghost use lib.ListN.{length};
-ghost use Rattle.model.specs.Calls.{rule};
 ghost use Rattle.answers.specs.Numbers.{outcomeNumbers};
 ghost use Rattle.int_slots.specs.Maps.{maps, before, after};
 ghost use Rattle.int_slots.specs.Memory.{memory};
 ghost use Rattle.kinds.specs.Told.{told};
-ghost use Rattle.int_map_union.specs.Calls.{planOf, slotNeeds, tableNeeds, slotStored, allStored};
+ghost use Rattle.int_map_union.specs.Calls.{planOf, slotNeeds, tableNeeds};
 ghost use Rattle.kinds.specs.Calls.{sizedOf, unionOf};
 use answers::Outcome;
 use answers::Refusal;
@@ -100,72 +99,6 @@ fn plan(
     Outcome::Refused(Refusal::Sizes)
 }
 
-// The insert rule with no test: the key's value changes in its slot, or the first free slot of its path takes the key.
-fn store(marks: &mut [u8], keys: &mut [u64], values: &mut [u64], key: u64, value: u64)
-    requires { ⌜ sizedOf maps (memory (now marks) (now keys) (now values)) ≡ true ⌝ }
-    ensures { λ r. ⌜ after marks keys values ≡ rule maps (before marks keys values) key value ⌝ }
-{
-    let seen = int_slots::map_probe(marks, keys, values, key);
-    match seen {
-        Probed::Hit(slot, _) => {
-            values[slot] = value;
-            return;
-        }
-        Probed::Free(slot, _) => {
-            marks[slot] = 1;
-            keys[slot] = key;
-            values[slot] = value;
-            return;
-        }
-        Probed::Full(_) => return,
-        Probed::Refused(_) => return,
-    }
-}
-
-// The insert rule for a slot of the right, where it is live.
-fn store_slot(
-    marks: &mut [u8],
-    keys: &mut [u64],
-    values: &mut [u64],
-    mark: u8,
-    key: u64,
-    value: u64,
-)
-    requires { ⌜ sizedOf maps (memory (now marks) (now keys) (now values)) ≡ true ⌝ }
-    ensures { λ r. ⌜ after marks keys values ≡ slotStored (before marks keys values) mark key value ⌝ }
-{
-    if mark == 1 {
-        store(marks, keys, values, key, value);
-        return;
-    }
-}
-
-// The right's pairs go into the left by the insert rule, in the right's slot order.
-fn store_all(
-    marks: &mut [u8],
-    keys: &mut [u64],
-    values: &mut [u64],
-    right_marks: &[u8],
-    right_keys: &[u64],
-    right_values: &[u64],
-)
-    requires { ⌜ (sizedOf maps (memory (now marks) (now keys) (now values)) ≡ true) × (length (now «right_keys») ≡ length (now «right_marks»)) × (length (now «right_values») ≡ length (now «right_marks»)) ⌝ }
-    ensures { λ r. ⌜ after marks keys values ≡ allStored (before marks keys values) (before «right_marks» «right_keys» «right_values») (length (now («right_marks» .entry))) ⌝ }
-{
-    let mut i = 0;
-    while i < right_marks.len() {
-        store_slot(
-            marks,
-            keys,
-            values,
-            right_marks[i],
-            right_keys[i],
-            right_values[i],
-        );
-        i += 1;
-    }
-}
-
 // Puts the right's pairs into the left, where its slots suffice for all; the right stays as it was.
 pub fn union_prefer_right(
     marks: &mut [u8],
@@ -180,7 +113,7 @@ pub fn union_prefer_right(
     let outcome = plan(marks, keys, values, right_marks, right_keys, right_values);
     match outcome {
         Outcome::Done => {
-            store_all(marks, keys, values, right_marks, right_keys, right_values);
+            int_store::map_store_all(marks, keys, values, right_marks, right_keys, right_values);
             Outcome::Done
         }
         Outcome::Refused(r) => Outcome::Refused(r),

@@ -1,0 +1,2 @@
+-- The laws of the insert rule in integer tables.
+pub mod Storing

@@ -1,0 +1,2 @@
+-- The definitions of the insert rule in integer tables.
+pub mod Stores
