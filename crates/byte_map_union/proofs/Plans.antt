@@ -8,7 +8,7 @@ use lib.ListN.{length}
 use Rattle.model.specs.Slots.{weigh, total, count}
 use Rattle.model.specs.Path.{Find, hit, miss, damage}
 use Rattle.model.specs.Store.{path, live-count, damagedSlots}
-use Rattle.model.specs.Calls.{Or, need, give, missed, lacking, needs, anyDamage, union}
+use Rattle.model.specs.Calls.{Or, need, pass, give, missed, lacking, needs, anyDamage, union}
 use Rattle.model.proofs.Cases.{by-bool}
 use Rattle.answers.specs.declared.Refusal.the-variants.{Sizes}
 use Rattle.digest.specs.Home.{homeOf}
@@ -82,15 +82,15 @@ give-need v false n a = refl
 module _ (l r : ByteMemory values) {b : Bool} (p : b ≡ sizedOf maps l) where
   -- sizes
   pub left-unfit : b ≡ false → planned (Refused Sizes) ≡ planOf l r
-  unfolding planned planOf union need give sizedOf
+  unfolding planned planOf union need pass give sizedOf
   left-unfit q = rw (sym p ∙ q)
 
   module _ (q : b ≡ true) {c : Bool} (s : c ≡ sizedOf maps r) where
     pub right-unfit : c ≡ false → planned (Refused Sizes) ≡ planOf l r
-    unfolding planned planOf union need give sizedOf
+    unfolding planned planOf union need pass give sizedOf
     right-unfit t = rw (sym p ∙ q, sym s ∙ t)
 
     -- the rest of the tests
     pub room-plan : {o : Or ℕ} → c ≡ true → o ≡ roomOf (l .spans) (r .spans) → o ≡ planOf l r
-    unfolding planOf roomOf tableNeeds union need give sizedOf
+    unfolding planOf roomOf tableNeeds union need pass give sizedOf
     room-plan t e = e ∙ (rw (sym p ∙ q, sym s ∙ t, ruined-is l, ruined-is r, needs-are (λ k. 1) l r, needs-are length l r, live-is l, used-is values l, give-need, give-need, give-need, give-need))

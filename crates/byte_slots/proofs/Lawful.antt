@@ -6,7 +6,7 @@ use mathlib.Core.Path.{_≡_, refl, sym, _∙_, ap}
 use native.Mathlib.Omega.{arith}
 use borrow.Author.Tests.{ltb-true, eqb-true}
 use lib.Dec.{eqb, ltb, leb}
-use lib.ListN.{length}
+use lib.ListN.{length, length-set}
 use Rattle.model.specs.Slots.{freed, live, Table, put, made}
 use Rattle.model.specs.Sound.{SoundSlots}
 use Rattle.model.specs.Store.{used}
@@ -17,7 +17,7 @@ use Rattle.digest.specs.Home.{homeOf, slotsFit}
 use Rattle.digest.proofs.Bounds.{home-below}
 use Rattle.kinds.specs.Columns.{Column}
 use Rattle.kinds.proofs.Columns.{LawfulColumn}
-use Rattle.byte_slots.specs.Memory.{Spans, arenaLimit, endAt, usedOf, fullDamage, fitting, ByteMemory, byteStore, liveAt, SoundSpans}
+use Rattle.byte_slots.specs.Memory.{Spans, arenaLimit, endAt, usedOf, fullDamage, fitting, filled, emptied, ByteMemory, byteStore, liveAt, SoundSpans}
 use Rattle.byte_slots.proofs.Held.{live-says, says-live, free-says, bare-total, bare-damaged, says-unharmed}
 use Rattle.byte_slots.proofs.Writes.{SameSizes, changed, fill-sizes, fill-slots, fill-laid, free-sizes, free-slots, free-laid, wipe-sizes, wipe-slots, wipe-laid}
 
@@ -96,7 +96,7 @@ module _ {W : Type 0} (C : Column W) (O : LawfulColumn C) where
 
   -- A byte table pays what a store owes.
   pub byte-lawful : Lawful (byteStore C)
-  unfolding endAt
+  unfolding endAt filled emptied
   byte-lawful = record {
     homes = λ m k e. home-below 0 (length (m .spans .marks)) k (sizes-say C m e .0);
     unharmed = λ m e g s. unharmed m g s;
@@ -116,4 +116,8 @@ module _ {W : Type 0} (C : Column W) (O : LawfulColumn C) where
         (free-laid (m .spans) i g a);
     wipe-wrote = λ m e.
         wrote (byteStore C .good) m (byteStore C .wipe m) made (wipe-sizes (m .spans)) (λ n. O .long-wipe (m .words) n) (wipe-slots (m .spans) (C .read (C .wipe (m .words)))) (wipe-laid (m .spans));
+    over-size = λ m i v. refl;
+    fill-size = λ m i k v. length-set (m .spans .marks) i 1;
+    free-size = λ m i. length-set (m .spans .marks) i 2;
+    wipe-size = λ m. wipe-sizes (m .spans) .marks;
   }

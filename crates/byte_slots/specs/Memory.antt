@@ -161,6 +161,7 @@ byteStore C = record {
   sized = λ m. fitting (m .spans) && C .long (m .words) (length (m .spans .marks));
   asked = askedOf;
   kept = keptOf;
+  carried = λ m. 0;
   damagedFully = λ m. fullDamage (m .spans);
   good = λ m. SoundSpans (m .spans);
   over = λ m i v. record { spans = m .spans; words = C .write (m .words) i v };

@@ -8,7 +8,7 @@ use borrow.Author.Tests.{le-leb, lt-leb}
 use lib.ListN.{length}
 use Rattle.model.specs.Slots.{Slot, never, freed, damaged, live, Table, weigh, total}
 use Rattle.model.specs.Store.{used}
-use Rattle.model.specs.Calls.{Or, no, ok, need, lacking, needs, anyDamage, union, acted, after-union}
+use Rattle.model.specs.Calls.{Or, no, ok, need, pass, lacking, needs, anyDamage, union, acted, after-union}
 use Rattle.model.proofs.Cases.{by-bool, clash}
 use Rattle.answers.proofs.Told.{other-case}
 use Rattle.answers.specs.declared.Refusal.{Refusal}
@@ -50,34 +50,34 @@ module _ (l r : IntMemory values) where
 
   -- sizes
   pub left-unfit : {b : Bool} → b ≡ sizedOf maps l → b ≡ false → outcomeNumbers (outcome.Refused Sizes) ≡ planOf l r
-  unfolding planOf union need sizedOf doneSaid outcomeNumbers
+  unfolding planOf union need pass sizedOf doneSaid outcomeNumbers
   left-unfit p q = rw (sym p ∙ q)
 
   pub right-unfit : {b c : Bool} → b ≡ sizedOf maps l → b ≡ true → c ≡ sizedOf maps r → c ≡ false → outcomeNumbers (outcome.Refused Sizes) ≡ planOf l r
-  unfolding planOf union need sizedOf doneSaid outcomeNumbers
+  unfolding planOf union need pass sizedOf doneSaid outcomeNumbers
   right-unfit p q s t = rw (sym p ∙ q, sym s ∙ t)
 
   module _ (f : sizedOf maps l ≡ true) (g : sizedOf maps r ≡ true) where
     -- damage in the left
     pub left-bad : {x : Scanned} → x ≡ scanning (l .marks) → x ≡ scanned.Damaged → outcomeNumbers (outcome.Refused Damaged) ≡ planOf l r
-    unfolding planOf union need anyDamage sizedOf doneSaid outcomeNumbers
+    unfolding planOf union need pass anyDamage sizedOf doneSaid outcomeNumbers
     left-bad p t = rw (f, g, scan-bad values l p t)
 
     module _ {x y : Scanned} {n : ℕ} (p : x ≡ scanning (l .marks)) (q : x ≡ scanned.Live n) (s : y ≡ scanning (r .marks)) where
       -- or in the right
       pub right-bad : y ≡ scanned.Damaged → outcomeNumbers (outcome.Refused Damaged) ≡ planOf l r
-      unfolding planOf union need anyDamage sizedOf doneSaid outcomeNumbers
+      unfolding planOf union need pass anyDamage sizedOf doneSaid outcomeNumbers
       right-bad t = rw (f, g, scan-live values l p q .0, scan-bad values r s t)
 
       module _ {z a : ℕ} (t : y ≡ scanned.Live z) (e : a ≡ tableNeeds l r (length (r .marks))) where
         -- room for the right's keys
         pub room-done : a ≤ length (l .marks) - n → outcomeNumbers outcome.Done ≡ planOf l r
-        unfolding planOf union need anyDamage needs tableNeeds sizedOf doneSaid outcomeNumbers
+        unfolding planOf union need pass anyDamage needs tableNeeds sizedOf doneSaid outcomeNumbers
         room-done h = rw (f, g, scan-live values l p q .0, scan-live values r s t .0, ← e, scan-live values l p q .1, le-leb a (length (l .marks) - n) h) (rw (no-bytes, le-leb 0 (0 - used maps l) (omega arith)))
 
         -- or too few slots
         pub room-none : length (l .marks) - n < a → outcomeNumbers (outcome.Refused NoSlot) ≡ planOf l r
-        unfolding planOf union need anyDamage needs tableNeeds sizedOf doneSaid outcomeNumbers
+        unfolding planOf union need pass anyDamage needs tableNeeds sizedOf doneSaid outcomeNumbers
         room-none h = rw (f, g, scan-live values l p q .0, scan-live values r s t .0, ← e, scan-live values l p q .1, lt-leb a (length (l .marks) - n) h)
 
 -- there are no more live slots than slots
@@ -98,7 +98,7 @@ plan-no (ok u) p q = other-case (rw q at p) refl
 module _ (l r : IntMemory values) {a : Outcome} (p : outcomeNumbers a ≡ planOf l r) where
   -- a plan that is done has right sizes
   pub plan-sized : a ≡ outcome.Done → (sizedOf maps l ≡ true) × (length (r .keys) ≡ length (r .marks)) × (length (r .words) ≡ length (r .marks))
-  unfolding planOf union need sizedOf
+  unfolding planOf union need pass sizedOf
   plan-sized q = go (plan-ok (union maps l r) p q .1)
     where
       go : {u : Unit {0}} → union maps l r ≡ ok u → (sizedOf maps l ≡ true) × (length (r .keys) ≡ length (r .marks)) × (length (r .words) ≡ length (r .marks))

@@ -104,4 +104,8 @@ module _ {W : Type 0} (C : Column W) (O : LawfulColumn C) where
       sized = rw (length-replicate {A = ℕ} (length (m .marks)) 0, length-replicate {A = ℕ} (length (m .keys)) 0, O .long-wipe (m .words) (length (m .marks)));
       good = tt;
     };
+    over-size = λ m i v. refl;
+    fill-size = λ m i k v. length-set (m .marks) i 1;
+    free-size = λ m i. length-set (m .marks) i 2;
+    wipe-size = λ m. length-replicate {A = ℕ} (length (m .marks)) 0;
   }

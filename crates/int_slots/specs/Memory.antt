@@ -35,6 +35,7 @@ intStore C = record {
   sized = λ m. slotsFit (length (m .marks)) && (eqb (length (m .marks)) (length (m .keys)) && C .long (m .words) (length (m .marks)));
   asked = λ k. 0;
   kept = λ k. 0;
+  carried = λ m. 0;
   damagedFully = λ m. false;
   good = λ m. Unit {0};
   over = λ m i v. record { marks = m .marks; keys = m .keys; words = C .write (m .words) i v };

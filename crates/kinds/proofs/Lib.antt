@@ -12,6 +12,7 @@ pub mod Settled
 pub mod Sizing
 pub mod Stepping
 pub mod Published
+pub mod Simple
 pub mod Told
 pub mod Trail
 pub mod Owed

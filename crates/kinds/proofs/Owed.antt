@@ -135,17 +135,17 @@ module _ {K W : Type 0} (M : Store K W) (L : Lawful M) (m : M .State) (f : Finit
   unfolding joining lacked need
   union-owed said n z p r = rw (union-any M L m r f s) (by-bool (M .sized r)
       (λ a. rw a (by-bool (anyDamage M r) (λ b. rw b (z 5))
-      (λ b. rw b (by-bool (leb (total (λ k. cond (contains f k) 0 1) (M .slots r) (M .size r)) (M .size m - mass (λ k. 1) (f .dom)))
+      (λ b. rw b (passed said z (M .carried r) _ _ (by-bool (leb (total (λ k. cond (contains f k) 0 1) (M .slots r) (M .size r)) (M .size m - mass (λ k. 1) (f .dom)))
       (λ c. rw c (by-bool (leb (total (λ k. cond (contains f k) 0 (M .weight k)) (M .slots r) (M .size r)) (M .bytes m - mass (M .weight) (f .dom))) (λ d. rw d p) (λ d. rw d (z 8))))
-      (λ c. rw c (z 7))))))
+      (λ c. rw c (z 7)))))))
       (λ a. rw a (z 1)))
 
-  pub union-known-owed : (said : Or (Unit {0}) → Numbers) (n : Numbers) → Plainly said → said (ok tt) ≡ n → (r : M .State) (g : Finite K W) → Shows M r g → said (union M m r) ≡ admitting M m (union-prefer-right f g .dom) n
+  pub union-known-owed : (said : Or (Unit {0}) → Numbers) (n : Numbers) → Plainly said → said (ok tt) ≡ n → (r : M .State) (g : Finite K W) → Shows M r g → said (union M m r) ≡ unless (M .carried r) (admitting M m (union-prefer-right f g .dom) n)
   unfolding admitting need
   union-known-owed said n z p r g t = rw (union-known M L m r f s g t)
-      (by-bool (leb (mass (λ a. 1) (union-prefer-right f g .dom)) (M .size m))
+      (passed said z (M .carried r) _ _ (by-bool (leb (mass (λ a. 1) (union-prefer-right f g .dom)) (M .size m))
       (λ a. rw a (by-bool (leb (mass (M .weight) (union-prefer-right f g .dom)) (M .bytes m)) (λ b. rw b p) (λ b. rw b (z 8))))
-      (λ a. rw a (z 7)))
+      (λ a. rw a (z 7))))
 
 module _ {K W : Type 0} (M : Store K W) (L : Lawful M) (m : M .State) (f : Finite K W) (s : Shows M m f) where
   -- a step

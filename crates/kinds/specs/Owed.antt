@@ -98,12 +98,12 @@ module _ {K W : Type 0} (M : Store K W) (m : M .State) where
     unfoldable pub lacked : (K → ℕ) → M .State → ℕ
     lacked weight r = total (λ k. cond (contains f k) 0 (weight k)) (M .slots r) (M .size r)
 
-    -- union with a right table of any memory: 1 for the right's sizes, 5 for its damage, then 7 and 8 where the slots or the bytes that are left do not suffice for what the map lacks.
+    -- union with a right table of any memory: 1 for the right's sizes, 5 for its damage, a key that it may not carry over, then 7 and 8 where the slots or the bytes that are left do not suffice for what the map lacks.
     unfoldable pub joining : M .State → Numbers → Numbers
     joining r n =
-        cond (M .sized r) (cond (anyDamage M r) (refusing 5 0)
+        cond (M .sized r) (cond (anyDamage M r) (refusing 5 0) (unless (M .carried r)
         (cond (leb (lacked (λ k. 1) r) (M .size m - mass (λ k. 1) (f .dom)))
-        (cond (leb (lacked (M .weight) r) (M .bytes m - mass (M .weight) (f .dom))) n (refusing 8 0)) (refusing 7 0)))
+        (cond (leb (lacked (M .weight) r) (M .bytes m - mass (M .weight) (f .dom))) n (refusing 8 0)) (refusing 7 0))))
         (refusing 1 0)
 
     -- A step at a with budget b: refused for no budget, or beyond S; done at S; the pair of the first live slot, by `hand` from key, value and slot with the walk moved past it and the slots examined; or nothing, after b slots or at S.

@@ -8,7 +8,7 @@ use Rattle.model.proofs.Cases.{clash}
 use Rattle.model.specs.Slots.{Slot, never, freed, damaged, live}
 use Rattle.model.specs.Path.{Find, hit, miss, damage}
 use Rattle.model.specs.Store.{Store, path, slotAt, used}
-use Rattle.model.specs.Calls.{Or, no, ok, need, pass, Seen, found, absent, Spot, occupied, vacant, seenBy, spotBy, entry, remove, heldOn, heldAt, occupied-get, occupied-remove, goodFor, vacancy}
+use Rattle.model.specs.Calls.{Or, no, ok, need, pass, Seen, found, absent, Spot, occupied, vacant, seenBy, spotBy, entry, put-spot, remove, heldOn, heldAt, occupied-get, occupied-remove, goodFor, vacancy}
 
 module _ {A : Type 0} where
   pub need-ok : (b : Bool) (n : ℕ) (a : Or A) (x : A) → need b n a ≡ ok x → (b ≡ true) × (a ≡ ok x)
@@ -92,6 +92,10 @@ module _ {K W : Type 0} (M : Store K W) (m : M .State) (k : K) where
   pub entry-spot : (x : Spot W) → entry M m k ≡ ok x → spotBy M m k (path M m k) ≡ ok x
   unfolding entry
   entry-spot x e = storing (M .kept k) (spotBy M m k (path M m k)) x e
+
+  pub put-taken : (x : Spot W) → put-spot M m k ≡ ok x → spotBy M m k (path M m k) ≡ ok x
+  unfolding put-spot pass
+  put-taken x e = storing 0 (spotBy M m k (path M m k)) x e
 
   pub remove-seen : (x : Seen W) → remove M m k ≡ ok x → seenBy M m k (path M m k) ≡ ok x
   unfolding remove

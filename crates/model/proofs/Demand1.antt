@@ -12,10 +12,10 @@ use lib.Dec.{ltb, leb, eqb}
 use Rattle.model.specs.Slots.{Slot, never, freed, damaged, live, Table}
 use Rattle.model.specs.Path.{from, Find, hit, miss, damage, at, stops, stopAt, freeAt, find, examined}
 use Rattle.model.specs.Store.{Store, path, slotAt, pathLength, live-count, used, damagedSlots}
-use Rattle.model.specs.Calls.{Or, no, ok, need, pass, give, Spot, occupied, vacant, on-occupied, on-vacant, seenBy, spotBy, get, entry, remove, capacity, length, reserve, copy, needs, anyDamage, union, heldOn, heldAt, occupied-get, occupied-remove, goodFor, vacancy, vacant-insert, or-insert, insert-entry}
+use Rattle.model.specs.Calls.{Or, no, ok, need, pass, give, Spot, occupied, vacant, on-occupied, on-vacant, seenBy, spotBy, get, entry, put-spot, remove, capacity, length, reserve, copy, needs, anyDamage, union, heldOn, heldAt, occupied-get, occupied-remove, goodFor, vacancy, vacant-insert, or-insert, insert-entry}
 use Rattle.model.specs.Walk.{halts, halted, reachOf, stepWithin, pace, step}
-use Rattle.model.specs.Machine.{Own, makes, clears, capacities, lens, empties, reserves, gets, contains-keys, removes, entries, inserts, occupied-gets, occupied-removes, occupied-sets, vacant-inserts, or-inserts, insert-entries, Call, own, copies, unions, steps, Answer, fine, number, truth, seen, spot, value, stepped, report, World, tells, stepping, answer}
-use Rattle.model.specs.Demand1.{Row, row, First, none-applies, applies-here, goes-on, refusal, numberIn, DamagedOnPath, Absent, DamagedSomewhere, sized-rows, count-rows, reserve-rows, look-rows, remove-rows, place-rows, grip-rows, drop-rows, open-rows, step-rows, copy-rows, union-rows, rows}
+use Rattle.model.specs.Machine.{Own, makes, clears, capacities, lens, empties, reserves, gets, contains-keys, removes, entries, inserts, puts, occupied-gets, occupied-removes, occupied-sets, vacant-inserts, or-inserts, insert-entries, Call, own, copies, unions, steps, Answer, fine, number, truth, seen, spot, value, stepped, report, World, tells, stepping, answer}
+use Rattle.model.specs.Demand1.{Row, row, First, none-applies, applies-here, goes-on, refusal, numberIn, DamagedOnPath, Absent, DamagedSomewhere, sized-rows, count-rows, reserve-rows, look-rows, remove-rows, place-rows, put-rows, grip-rows, drop-rows, open-rows, step-rows, copy-rows, union-rows, rows}
 use Rattle.model.proofs.Cases.{by-bool, by-lt, by-eq, by-same, clash}
 use Rattle.model.proofs.Slots.{damaged-where, damaged-bad}
 use Rattle.model.proofs.Path.{from-low, from-before, from-here, Ended, find-ended, ended-hit, ended-never, ended-round, ended-bad, examined-stop, miss-free}
@@ -260,6 +260,10 @@ module _ {K W : Type 0} (M : Store K W) (homes : (m : M .State) (k : K) → M .s
     unfolding entry
     placed-rows k = first-sized (M .sized m) _ _ (λ z. first-pass (M .kept k) _ _ (λ y. first-harmed (M .damagedFully m) _ _ _ (λ h. first-spot M homes m k z)))
 
+    put-in-rows : (k : K) → First (put-rows M m k) (numberIn (put-spot M m k))
+    unfolding put-spot
+    put-in-rows k = first-sized (M .sized m) _ _ (λ z. first-harmed (M .damagedFully m) _ _ _ (λ h. first-spot M homes m k z))
+
     gripped-rows : (s : ℕ) (k : K) → First (grip-rows M m s k) (numberIn (occupied-get M m s k))
     unfolding occupied-get
     gripped-rows s k = first-sized (M .sized m) _ _ (λ z. first-pass (M .asked k) _ _ (λ y. first-grip M homes m s k))
@@ -332,9 +336,10 @@ module _ {K W : Type 0} (M : Store K W) (homes : (m : M .State) (k : K) → M .s
       (λ z. first-sized (M .sized r) _ _
       (λ y. joined-row (not (anyDamage M l)) 5 _ _ _ _ (λ e. ruined-is l (not-false (anyDamage M l) e)) (λ e f. is-ruined l (not-true (anyDamage M l) e) f)
       (λ x. first-need (not (anyDamage M r)) 5 _ _ _ (λ e. ruined-is r (not-false (anyDamage M r) e)) (λ e f. is-ruined r (not-true (anyDamage M r) e) f)
-      (λ w. first-need (leb (needs M (λ k. 1) l r) (M .size l - live-count M l)) 7 _ _ _ (λ e. leb-false (needs M (λ k. 1) l r) (M .size l - live-count M l) e) (λ e f. omega (arith, leb-true (needs M (λ k. 1) l r) (M .size l - live-count M l) e))
+      (λ w. first-pass (M .carried r) _ _
+      (λ t. first-need (leb (needs M (λ k. 1) l r) (M .size l - live-count M l)) 7 _ _ _ (λ e. leb-false (needs M (λ k. 1) l r) (M .size l - live-count M l) e) (λ e f. omega (arith, leb-true (needs M (λ k. 1) l r) (M .size l - live-count M l) e))
       (λ u. first-need (leb (needs M (M .weight) l r) (M .bytes l - used M l)) 8 _ _ _ (λ e. leb-false (needs M (M .weight) l r) (M .bytes l - used M l) e) (λ e f. omega (arith, leb-true (needs M (M .weight) l r) (M .bytes l - used M l) e))
-      (λ v. none-applies))))))
+      (λ v. none-applies)))))))
 
   numbered : {A : Type 0} (say : A → Answer K W) → ((a : A) → refusal (say a) ≡ 0) → (x : Or A) (rs : List Row) → First rs (numberIn x) → First rs (refusal (report say x))
   unfolding report refusal numberIn
@@ -359,6 +364,7 @@ module _ {K W : Type 0} (M : Store K W) (homes : (m : M .State) (k : K) → M .s
   own-first w x (removes k) = numbered seen (λ a. refl) _ _ (taken-rows (w x) k)
   own-first w x (entries k) = numbered spot (λ a. refl) _ _ (placed-rows (w x) k)
   own-first w x (inserts k v) = numbered spot (λ a. refl) _ _ (placed-rows (w x) k)
+  own-first w x (puts k v) = numbered spot (λ a. refl) _ _ (put-in-rows (w x) k)
   own-first w x (occupied-gets s k) = numbered value (λ a. refl) _ _ (gripped-rows (w x) s k)
   own-first w x (occupied-removes s k) = numbered value (λ a. refl) _ _ (dropped-rows (w x) s k)
   own-first w x (occupied-sets s k v) = numbered value (λ a. refl) _ _ (gripped-rows (w x) s k)

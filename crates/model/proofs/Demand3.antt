@@ -124,16 +124,16 @@ module _ {K W : Type 0} (M : Machine K W) (O : LawfulMachine M) where
   unfolding stays has
   stay-now [] x k s = some-is (M .keys) (lookIn (M .map x) k) s
   stay-now (steps b ∷ es) x k s = some-is (M .keys) (lookIn (M .map x) k) (both (has M x k) (stays M k x es) s .0)
-  stay-now (calls c ∷ es) x k s = some-is (M .keys) (lookIn (M .map x) k) (both (has M x k) (not (M .wipes x c) && stays M k (M .after x c) es) s .0)
+  stay-now (calls c ∷ es) x k s = some-is (M .keys) (lookIn (M .map x) k) (both (has M x k) (not (M .drops x c k) && stays M k (M .after x c) es) s .0)
 
-  -- what comes after a call of a run along which the map is known: it is known, the rest lasts, the key was not wiped, and it is there with a value
-  onwards : (c : M .Call) (es : Run M) (x : M .State) (k : K) → lasts M x (calls c ∷ es) ≡ true → stays M k x (calls c ∷ es) ≡ true → (isSome (M .map (M .after x c)) ≡ true) × (lasts M (M .after x c) es ≡ true) × (M .wipes x c ≡ false) × (stays M k (M .after x c) es ≡ true) × ((w : W) × (lookIn (M .map (M .after x c)) k ≡ some w))
+  -- what comes after a call of a run along which the map is known: it is known, the rest lasts, the key was not removed, and it is there with a value
+  onwards : (c : M .Call) (es : Run M) (x : M .State) (k : K) → lasts M x (calls c ∷ es) ≡ true → stays M k x (calls c ∷ es) ≡ true → (isSome (M .map (M .after x c)) ≡ true) × (lasts M (M .after x c) es ≡ true) × (M .drops x c k ≡ false) × (stays M k (M .after x c) es ≡ true) × ((w : W) × (lookIn (M .map (M .after x c)) k ≡ some w))
   unfolding stays lasts
   onwards c es x k z s =
       let (g, y) = both (isSome (M .map (M .after x c))) (lasts M (M .after x c) es) z in
-      let a = both (has M x k) (not (M .wipes x c) && stays M k (M .after x c) es) s .1 in
-      let (n, r) = both (not (M .wipes x c)) (stays M k (M .after x c) es) a in
-      (g, y, not-true (M .wipes x c) n, r, stay-now es (M .after x c) k r)
+      let a = both (has M x k) (not (M .drops x c k) && stays M k (M .after x c) es) s .1 in
+      let (n, r) = both (not (M .drops x c k)) (stays M k (M .after x c) es) a in
+      (g, y, not-true (M .drops x c k) n, r, stay-now es (M .after x c) k r)
 
   -- a key that stays, stays in its slot; and it is handed out exactly when the walk passes that slot
   stay-slot : (es : Run M) (x : M .State) → O .SoundState x → lasts M x es ≡ true → (k : K) (i : ℕ) (v : W) → i < M .size → O .table x i ≡ live k v → stays M k x es ≡ true → (w : W) × (O .table (stateAfter M x es) i ≡ live k w)
@@ -142,7 +142,7 @@ module _ {K W : Type 0} (M : Machine K W) (O : LawfulMachine M) where
   stay-slot (steps b ∷ es) x f z k i v l e s = stay-slot es x f z k i v l e (both (has M x k) (stays M k x es) s .1)
   stay-slot (calls c ∷ es) x f z k i v l e s =
       let (g, y, n, r, (w, p)) = onwards c es x k z s in
-      stay-slot es (M .after x c) (O .after-sound x c f g) y k i w l (O .stands x c f g n i k v w l e p) r
+      stay-slot es (M .after x c) (O .after-sound x c f g) y k i w l (O .stands x c f g i k v w n l e p) r
 
   stepped-past : (x : M .State) (q : M .Ticket) (w : ℕ) (b : M .Step) → O .SoundState x → (k : K) (i : ℕ) (v : W) → i < M .size → O .table x i ≡ live k v → handsOut (M .keys) k (M .answers x q w b) + past i w ≡ past i (movedBy w (M .answers x q w b))
   stepped-past x q w b f k i v l e = rw (O .paces x f q w b) (step-past (M .keys) (M .size) (O .table x) (O .once x f) (M .bar x q) w (M .budget b) i k v l e)
@@ -156,7 +156,7 @@ module _ {K W : Type 0} (M : Machine K W) (O : LawfulMachine M) where
       omega (arith, one, rest)
   times-past (calls c ∷ es) x q w f z k i v l e s =
       let (g, y, n, r, (u, p)) = onwards c es x k z s in
-      times-past es (M .after x c) q w (O .after-sound x c f g) y k i u l (O .stands x c f g n i k v u l e p) r
+      times-past es (M .after x c) q w (O .after-sound x c f g) y k i u l (O .stands x c f g i k v u n l e p) r
 
   fine-after : (es : Run M) (x : M .State) → O .SoundState x → lasts M x es ≡ true → O .SoundState (stateAfter M x es)
   unfolding stateAfter lasts

@@ -8,9 +8,9 @@ use Rattle.model.specs.Slots.{live}
 use Rattle.model.specs.Path.{hit, miss, freeAt}
 use Rattle.model.specs.Finite.{Finite, Proper, empty, insert, remove}
 use Rattle.model.specs.Store.{Store, path, slotAt}
-use Rattle.model.specs.Calls.{Or, no, ok, give, Seen, found, absent, Spot, occupied, vacant, on-occupied, on-vacant, spotBy, entry, storedBy, after-insert, removedBy, after-remove, acted, capacity, after-make, occupied-get, after-set, occupied-remove, after-drop, vacancy, vacant-insert, after-fill, or-insert, after-or-insert, insert-entry, after-insert-entry}
+use Rattle.model.specs.Calls.{Or, no, ok, give, Seen, found, absent, Spot, occupied, vacant, on-occupied, on-vacant, spotBy, entry, storedBy, after-insert, put-spot, after-put, removedBy, after-remove, acted, capacity, after-make, occupied-get, after-set, occupied-remove, after-drop, vacancy, vacant-insert, after-fill, or-insert, after-or-insert, insert-entry, after-insert-entry}
 use Rattle.model.specs.Calls
-use Rattle.model.specs.Machine.{Own, makes, clears, capacities, lens, empties, reserves, gets, contains-keys, removes, entries, inserts, occupied-gets, occupied-removes, occupied-sets, vacant-inserts, or-inserts, insert-entries, Answer, fine, seen, spot, value, report, tells, leaves}
+use Rattle.model.specs.Machine.{Own, makes, clears, capacities, lens, empties, reserves, gets, contains-keys, removes, entries, inserts, puts, occupied-gets, occupied-removes, occupied-sets, vacant-inserts, or-inserts, insert-entries, Answer, fine, seen, spot, value, report, tells, leaves}
 use Rattle.model.specs.Demand2.{refuses, grows, renews}
 use Rattle.model.specs.Lawful.{Lawful, Shows}
 use Rattle.model.proofs.Cases.{by-same}
@@ -18,7 +18,7 @@ use Rattle.model.proofs.Path.{miss-free, hit-at, at-below}
 use Rattle.model.proofs.Sound.{sound-gone}
 use Rattle.model.proofs.Finite.{remove-proper}
 use Rattle.model.proofs.Shows.{home-below, shows-wipe, shows-over, shows-free, shows-fill}
-use Rattle.model.proofs.Accepted.{seen-found, seen-absent, spot-occupied, spot-vacant, grip-live, good-vacant, entry-spot, remove-seen, occupied-grip, removed-grip, vacancy-good}
+use Rattle.model.proofs.Accepted.{seen-found, seen-absent, spot-occupied, spot-vacant, grip-live, good-vacant, entry-spot, put-taken, remove-seen, occupied-grip, removed-grip, vacancy-good}
 
 module _ {K W : Type 0} (M : Store K W) where
   refuses-give : {A : Type 0} (v : W) (x : Or A) (say : A → Answer K W) → ((a : A) → refuses (say a) ≡ false) → refuses (report {K = K} value (give v x)) ≡ refuses (report say x)
@@ -40,6 +40,7 @@ module _ {K W : Type 0} (M : Store K W) where
   by-renews m (removes k) other anew = other refl
   by-renews m (entries k) other anew = other refl
   by-renews m (inserts k v) other anew = other refl
+  by-renews m (puts k v) other anew = other refl
   by-renews m (occupied-gets s k) other anew = other refl
   by-renews m (occupied-removes s k) other anew = other refl
   by-renews m (occupied-sets s k v) other anew = other refl
@@ -78,17 +79,23 @@ module _ {K W : Type 0} (M : Store K W) where
         let z : i ≡ slotAt M m k (freeAt (M .size m) (M .home m k) (M .slots m)) = r ∙ ap (λ n. slotAt M m k n) y in
         rw z (shows-fill M L m f s k v (path-gone k e x p) (omega arith) (omega (arith, L .within m (s .soundTable .sized) (s .soundTable .good))))
 
+    -- insert's rule, where the path's own answer was accepted
+    stored-shows : (k : K) (v : W) (r : Or (Spot W)) → ((x : Spot W) → r ≡ ok x → spotBy M m k (path M m k) ≡ ok x) → Shows M (storedBy M m k v r) (cond (refuses (report {K = K} spot r)) f (insert (M .keys) f k v))
+    unfolding report refuses storedBy
+    stored-shows k v (no n) e = s
+    stored-shows k v (ok (occupied i w x)) e =
+        let (n, p, q, t) = spot-occupied M m k w i x (e (occupied i w x) refl) in
+        let (l, c) = path-live m k n w (home-below M L m (s .soundTable) k) p in
+        rw q (shows-over M L m f s (slotAt M m k n) k v w l c)
+    stored-shows k v (ok (vacant i x)) e = filled-shows i x k v (e (vacant i x) refl)
+
     pub insert-shows : (k : K) (v : W) → Shows M (after-insert M m k v) (cond (refuses (report {K = K} spot (entry M m k))) f (insert (M .keys) f k v))
-    unfolding after-insert report refuses storedBy entry
-    insert-shows k v = go (entry M m k) refl
-      where
-        go : (r : Or (Spot W)) → entry M m k ≡ r → Shows M (storedBy M m k v r) (cond (refuses (report {K = K} spot r)) f (insert (M .keys) f k v))
-        go (no n) e = s
-        go (ok (occupied i w x)) e =
-            let (n, p, q, t) = spot-occupied M m k w i x (entry-spot M m k (occupied i w x) e) in
-            let (l, c) = path-live m k n w (home-below M L m (s .soundTable) k) p in
-            rw q (shows-over M L m f s (slotAt M m k n) k v w l c)
-        go (ok (vacant i x)) e = filled-shows i x k v (entry-spot M m k (vacant i x) e)
+    unfolding after-insert
+    insert-shows k v = stored-shows k v (entry M m k) (entry-spot M m k)
+
+    put-shows : (k : K) (v : W) → Shows M (after-put M m k v) (cond (refuses (report {K = K} spot (put-spot M m k))) f (insert (M .keys) f k v))
+    unfolding after-put
+    put-shows k v = stored-shows k v (put-spot M m k) (put-taken M m k)
 
     pub remove-shows : (k : K) → Shows M (after-remove M m k) (cond (refuses (report {K = K} seen (Calls.remove M m k))) f (remove (M .keys) f k))
     unfolding after-remove report refuses removedBy Calls.remove remove
@@ -135,6 +142,7 @@ module _ {K W : Type 0} (M : Store K W) where
     own-shows (removes k) = remove-shows k
     own-shows (entries k) = kept-shows (refuses (tells M m (entries k)))
     own-shows (inserts k v) = insert-shows k v
+    own-shows (puts k v) = put-shows k v
     own-shows (occupied-gets i k) = kept-shows (refuses (tells M m (occupied-gets i k)))
     own-shows (occupied-removes i k) = acted-shows (occupied-remove M m i k) value (M .free m i) (remove (M .keys) f k) (λ a. refl) (λ a e. drop-shows i k a e)
     own-shows (occupied-sets i k v) = acted-shows (occupied-get M m i k) value (M .over m i v) (insert (M .keys) f k v) (λ a. refl) (λ a e. set-shows i k v a e)

@@ -14,11 +14,11 @@ use Rattle.model.specs.Slots.{never, damaged, frees, live, made, pairs, 
 use Rattle.model.specs.Path.{hit, miss, freeAt}
 use Rattle.model.specs.Finite.{Finite, isSome, contains, member, mass, len, empty, insert, remove, firsts, finiteOf}
 use Rattle.model.specs.Store.{Store, path, slotAt, pathLength, live-count, used}
-use Rattle.model.specs.Calls.{lookupOf, Or, no, ok, need, pass, give, Seen, found, absent, Spot, occupied, vacant, on-occupied, on-vacant, seenBy, spotBy, get, entry, storedBy, after-insert, removedBy, after-remove, acted, capacity, after-make, reserve, copy, after-copy, ruleBy, rule, storeAll, missed, lacking, needs, union, after-union, heldOn, heldAt, occupied-get, after-set, occupied-remove, after-drop, goodFor, vacancy, vacant-insert, after-fill, or-insert, after-or-insert, insert-entry, after-insert-entry}
+use Rattle.model.specs.Calls.{lookupOf, Or, no, ok, need, pass, give, Seen, found, absent, Spot, occupied, vacant, on-occupied, on-vacant, seenBy, spotBy, get, entry, storedBy, after-insert, put-spot, after-put, removedBy, after-remove, acted, capacity, after-make, reserve, copy, after-copy, ruleBy, rule, storeAll, missed, lacking, needs, union, after-union, heldOn, heldAt, occupied-get, after-set, occupied-remove, after-drop, goodFor, vacancy, vacant-insert, after-fill, or-insert, after-or-insert, insert-entry, after-insert-entry}
 use Rattle.model.specs.Calls
 use Rattle.model.specs.Walk.{StepAnswer, pair, nothing, done, halts, step}
-use Rattle.model.specs.Machine.{makes, clears, capacities, lens, empties, reserves, gets, contains-keys, removes, entries, inserts, occupied-gets, occupied-removes, occupied-sets, vacant-inserts, or-inserts, insert-entries, Call, own, copies, unions, steps, Answer, refused, fine, number, truth, seen, spot, value, stepped, report, World, tells, leaves, stepping, answer}
-use Rattle.model.specs.Demand1.{Row, row, First, none-applies, applies-here, goes-on, Absent, DamagedOnPath, DamagedSomewhere, sized-rows, count-rows, look-rows, place-rows, grip-rows, open-rows, rows, refusal}
+use Rattle.model.specs.Machine.{makes, clears, capacities, lens, empties, reserves, gets, contains-keys, removes, entries, inserts, puts, occupied-gets, occupied-removes, occupied-sets, vacant-inserts, or-inserts, insert-entries, Call, own, copies, unions, steps, Answer, refused, fine, number, truth, seen, spot, value, stepped, report, World, tells, leaves, stepping, answer}
+use Rattle.model.specs.Demand1.{Row, row, First, none-applies, applies-here, goes-on, Absent, DamagedOnPath, DamagedSomewhere, sized-rows, count-rows, look-rows, room-rows, place-rows, grip-rows, open-rows, rows, refusal}
 use Rattle.model.specs.Demand2.{refuses, renews, EntryOf, is-occupied, is-vacant, is-full, is-tight}
 use Rattle.model.specs.Tables.{sweeps, Renewal}
 use Rattle.model.specs.Lawful.{Lawful, SoundTable, Shows}
@@ -27,7 +27,7 @@ use Rattle.model.proofs.Slots.{put-same}
 use Rattle.model.proofs.Path.{at-below, hit-at, hit-examined, miss-examined, examined-low, examined-high, free-before, free-here, free-high}
 use Rattle.model.proofs.Sound.{sound-look, no-free-full, full-no-free}
 use Rattle.model.proofs.Pairs.{total-pairs}
-use Rattle.model.proofs.Accepted.{need-ok, pass-ok, seen-found, seen-absent, spot-occupied, spot-vacant, entry-spot, grip-live, occupied-grip, removed-grip, good-vacant}
+use Rattle.model.proofs.Accepted.{need-ok, pass-ok, seen-found, seen-absent, spot-occupied, spot-vacant, entry-spot, put-taken, grip-live, occupied-grip, removed-grip, good-vacant}
 use Rattle.model.proofs.Shows.{home-below, shows-wipe, PathOf, here, gone, path-of, free-room, shows-unharmed}
 use Rattle.model.proofs.Exact.{live-len, used-mass, len-high, used-high, seenFor, seen-is, length-is, reserve-is}
 use Rattle.model.proofs.Keeps.{path-free, insert-shows, remove-shows, set-shows, drop-shows}
@@ -155,17 +155,37 @@ module _ {K W : Type 0} (M : Store K W) where
       missing f p (told-miss x y r b a) = a
       missing f p (told-hurt r b a) = a
 
+  -- what insert and a put store, where the path's own answer was accepted, is the insert rule
+  stored-by-rule : (m : M .State) (k : K) (v : W) (x : Spot W) → spotBy M m k (path M m k) ≡ ok x → storedBy M m k v (ok x) ≡ rule M m k v
+  unfolding storedBy rule ruleBy
+  stored-by-rule m k v (occupied i w e) q = let (n, p, r, t) = spot-occupied M m k w i e q in at-key n p r
+    where
+      at-key : (n : ℕ) → path M m k ≡ hit n w → i ≡ slotAt M m k n → M .over m i v ≡ ruleBy M m k v (path M m k)
+      at-key n p r = rw (p, r)
+  stored-by-rule m k v (vacant i e) q = let (f, p, r, l, u) = spot-vacant M m k i e q in at-free f p r l
+    where
+      at-free : (f : ℕ) → path M m k ≡ miss e f → i ≡ slotAt M m k f → f < M .size m → M .fill m i k v ≡ ruleBy M m k v (path M m k)
+      at-free f p r l = rw (p, r, lt-ltb f (M .size m) l)
+
   -- an accepted insert does what the insert rule does
   pub insert-by-rule : (m : M .State) (k : K) (v : W) (x : Spot W) → entry M m k ≡ ok x → after-insert M m k v ≡ rule M m k v
-  unfolding after-insert storedBy rule ruleBy
-  insert-by-rule m k v (occupied i w e) q = let (n, p, r, t) = spot-occupied M m k w i e (entry-spot M m k (occupied i w e) q) in by n p r
-    where
-      by : (n : ℕ) → path M m k ≡ hit n w → i ≡ slotAt M m k n → storedBy M m k v (entry M m k) ≡ ruleBy M m k v (path M m k)
-      by n p r = rw (q, p, r)
-  insert-by-rule m k v (vacant i e) q = let (f, p, r, l, u) = spot-vacant M m k i e (entry-spot M m k (vacant i e) q) in by f p r l
-    where
-      by : (f : ℕ) → path M m k ≡ miss e f → i ≡ slotAt M m k f → f < M .size m → storedBy M m k v (entry M m k) ≡ ruleBy M m k v (path M m k)
-      by f p r l = rw (q, p, r, lt-ltb f (M .size m) l)
+  unfolding after-insert
+  insert-by-rule m k v x q = ap (storedBy M m k v) q ∙ stored-by-rule m k v x (entry-spot M m k x q)
+
+  -- and so does an accepted put
+  pub put-by-rule : (m : M .State) (k : K) (v : W) (x : Spot W) → put-spot M m k ≡ ok x → after-put M m k v ≡ rule M m k v
+  unfolding after-put
+  put-by-rule m k v x q = ap (storedBy M m k v) q ∙ stored-by-rule m k v x (put-taken M m k x q)
+
+  -- where the tests before the path pass, a put is what the path says
+  pub put-clear : (m : M .State) (k : K) → M .sized m ≡ true → M .damagedFully m ≡ false → put-spot M m k ≡ spotBy M m k (path M m k)
+  unfolding put-spot need
+  put-clear m k z h = rw (z, h)
+
+  -- a put has insert's answer where the key may be stored
+  pub put-as-insert : (m : M .State) (k : K) → M .kept k ≡ 0 → put-spot M m k ≡ entry M m k
+  unfolding put-spot entry pass
+  put-as-insert m k e = rw e
 
   -- an accepted union is the insert rule for each pair of the right, in the right's slot order
   pub union-folds : (l r : M .State) (u : Unit {0}) → union M l r ≡ ok u → after-union M l r ≡ storeAll M l (pairs (M .slots r) (M .size r))
@@ -516,7 +536,7 @@ first-calm (applies-here p) (no-damage h c) e = h p
 first-calm (goes-on q f) (other-number h c) e = first-calm f c e
 first-calm (goes-on q f) (no-damage h c) e = first-calm f c e
 
-module _ {K W : Type 0} (M : Store K W) (L : Lawful M) (asked-else : (k : K) → M .asked k ≡ 5 → ⊥) (kept-else : (k : K) → M .kept k ≡ 5 → ⊥) where
+module _ {K W : Type 0} (M : Store K W) (L : Lawful M) (asked-else : (k : K) → M .asked k ≡ 5 → ⊥) (kept-else : (k : K) → M .kept k ≡ 5 → ⊥) (carried-else : (m : M .State) → M .carried m ≡ 5 → ⊥) where
   module _ (m : M .State) (h : SoundTable M m) where
     no-bad-somewhere : DamagedSomewhere M m → ⊥
     no-bad-somewhere (i, l, e) = h .sound .whole i l e
@@ -544,8 +564,11 @@ module _ {K W : Type 0} (M : Store K W) (L : Lawful M) (asked-else : (k : K) →
     look-calm : (k : K) → Calm (look-rows M m k)
     look-calm k = other (λ e. omega arith) (other (asked-else k) (whole (no-bad-on-path k) calm-end))
 
+    room-calm : (k : K) → Calm (room-rows M m k)
+    room-calm k = whole (no-harm-on-path k) (other (λ e. omega arith) (other (λ e. omega arith) calm-end))
+
     place-calm : (k : K) → Calm (place-rows M m k)
-    place-calm k = other (λ e. omega arith) (other (kept-else k) (whole (no-harm-on-path k) (other (λ e. omega arith) (other (λ e. omega arith) calm-end))))
+    place-calm k = other (λ e. omega arith) (other (kept-else k) (room-calm k))
 
     grip-calm : (i : ℕ) (k : K) → Calm (grip-rows M m i k)
     grip-calm i k = other (λ e. omega arith) (other (asked-else k) (whole (not-bad-at i) (other (λ e. omega arith) calm-end)))
@@ -565,6 +588,7 @@ module _ {K W : Type 0} (M : Store K W) (L : Lawful M) (asked-else : (k : K) →
   calm w h x (own (removes k)) = other (λ e. omega arith) (other (asked-else k) (whole (no-harm-on-path (w x) (h x) k) calm-end))
   calm w h x (own (entries k)) = place-calm (w x) (h x) k
   calm w h x (own (inserts k v)) = place-calm (w x) (h x) k
+  calm w h x (own (puts k v)) = other (λ e. omega arith) (room-calm (w x) (h x) k)
   calm w h x (own (occupied-gets i k)) = grip-calm (w x) (h x) i k
   calm w h x (own (occupied-removes i k)) = other (λ e. omega arith) (other (asked-else k) (whole (λ p. ⊎-elim (no-harm (w x) (h x)) (not-bad-at (w x) (h x) i) p) (other (λ e. omega arith) calm-end)))
   calm w h x (own (occupied-sets i k v)) = grip-calm (w x) (h x) i k
@@ -574,7 +598,7 @@ module _ {K W : Type 0} (M : Store K W) (L : Lawful M) (asked-else : (k : K) →
   calm w h x (own (insert-entries (on-occupied i) k v)) = grip-calm (w x) (h x) i k
   calm w h x (own (insert-entries (on-vacant i) k v)) = open-calm (w x) (h x) i k
   calm w h x (copies y) = other (λ e. omega arith) calm-end
-  calm w h x (unions y) = other (λ e. omega arith) (whole (λ p. ⊎-elim (⊎-elim (no-bad-somewhere (w x) (h x)) (no-harm (w x) (h x))) (⊎-elim (no-bad-somewhere (w y) (h y)) (no-harm (w y) (h y))) p) (other (λ e. omega arith) (other (λ e. omega arith) calm-end)))
+  calm w h x (unions y) = other (λ e. omega arith) (whole (λ p. ⊎-elim (⊎-elim (no-bad-somewhere (w x) (h x)) (no-harm (w x) (h x))) (⊎-elim (no-bad-somewhere (w y) (h y)) (no-harm (w y) (h y))) p) (other (carried-else (w y)) (other (λ e. omega arith) (other (λ e. omega arith) calm-end))))
   calm w h x (steps a b) = other (λ e. omega arith) (other (λ e. omega arith) (other (λ e. omega arith) (whole (λ (j, u, l, v, q, r). h x .sound .whole j l q) calm-end)))
 
   -- a sound table never answers 5, whatever the call (where a key itself is not refused with 5)
@@ -595,6 +619,7 @@ module _ {K W : Type 0} (M : Store K W) where
   swept (own (removes k)) e = clash cc
   swept (own (entries k)) e = clash cc
   swept (own (inserts k v)) e = clash cc
+  swept (own (puts k v)) e = clash cc
   swept (own (occupied-gets i k)) e = clash cc
   swept (own (occupied-removes i k)) e = clash cc
   swept (own (occupied-sets i k v)) e = clash cc

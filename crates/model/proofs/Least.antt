@@ -1,4 +1,4 @@
--- In the base the rows of every call stand in rising order, so the first that applies is the least number; and a refused call leaves the memory as it was.
+-- In the base the rows of every call stand in rising order, and then the first that applies is the least number; and a refused call leaves the memory as it was.
 use Prim.Native.Nat.{ℕ, _≤_, _<_, max}
 use mathlib.Core.Bool.{Bool, true, false}
 use mathlib.Core.List.{List, _∷_}
@@ -7,11 +7,10 @@ use mathlib.Core.Path.{_≡_, refl, sym, _∙_, subst}
 use native.Mathlib.Omega.{arith}
 use Rattle.model.proofs.Cases.{clash}
 use Rattle.model.specs.Store.{Store}
-use Rattle.model.specs.Calls.{Or, no, ok, give, Seen, Spot, on-occupied, on-vacant, entry, storedBy, after-insert, remove, removedBy, after-remove, acted, capacity, after-make, copy, after-copy, union, after-union, occupied-get, after-set, occupied-remove, after-drop, vacancy, vacant-insert, after-fill, or-insert, after-or-insert, insert-entry, after-insert-entry}
-use Rattle.model.specs.Machine.{Own, makes, clears, capacities, lens, empties, reserves, gets, contains-keys, removes, entries, inserts, occupied-gets, occupied-removes, occupied-sets, vacant-inserts, or-inserts, insert-entries, Call, own, copies, unions, steps, Answer, fine, seen, spot, value, report, World, tells, leaves, answer, left}
+use Rattle.model.specs.Calls.{Or, no, ok, give, Seen, Spot, on-occupied, on-vacant, entry, storedBy, after-insert, put-spot, after-put, remove, removedBy, after-remove, acted, capacity, after-make, copy, after-copy, union, after-union, occupied-get, after-set, occupied-remove, after-drop, vacancy, vacant-insert, after-fill, or-insert, after-or-insert, insert-entry, after-insert-entry}
+use Rattle.model.specs.Machine.{Own, makes, clears, capacities, lens, empties, reserves, gets, contains-keys, removes, entries, inserts, puts, occupied-gets, occupied-removes, occupied-sets, vacant-inserts, or-inserts, insert-entries, Call, own, copies, unions, steps, Answer, fine, seen, spot, value, report, World, tells, leaves, answer, left}
 use Rattle.model.specs.Demand2.{refuses}
 use Rattle.model.specs.Demand1.{Row, row, First, none-applies, applies-here, goes-on, Applies, Least, Rising, rises-end, rises, KeyBar, refusal, rows}
-use Rattle.model.proofs.Demand1.{demand-1}
 
 rising-above : (rs : List Row) (a i : ℕ) → Rising a rs → Applies rs i → a < i
 rising-above rs a i rises-end x = absurd x
@@ -38,11 +37,15 @@ rise h r = rises h r
 up : {a n : ℕ} {P : Type 0} {rs : List Row} → a < n → Rising n rs → Rising a (row n P ∷ rs)
 up {a} {n} {P} {rs} l r = let e : n ≡ max a n = omega arith in rise (λ p. l) (subst (λ x. Rising x rs) e r)
 
+-- a row that cannot apply, and then the others
+passed-over : {a b : ℕ} {rs : List Row} → b ≡ 0 → Rising a rs → Rising a (row b (b ≡ 0 → ⊥) ∷ rs)
+passed-over {a} {b} {rs} e r = let z : a ≡ max a b = omega arith in rise (λ p. absurd (p e)) (subst (λ x. Rising x rs) z r)
+
 -- sizes and key, then rows from 5 on
 keyed : {b : ℕ} {P : Type 0} {rs : List Row} → KeyBar b → ((a : ℕ) → a < 5 → Rising a rs) → Rising 0 (row 1 P ∷ row b (b ≡ 0 → ⊥) ∷ rs)
 keyed {b} k r = rise (λ p. omega arith) (rise (λ p. ⊎-elim (λ e. absurd (p e)) (λ e. omega arith) k) (r (max (max 0 1) b) (⊎-elim (λ e. omega arith) (λ e. omega arith) k)))
 
-module _ {K W : Type 0} (M : Store K W) (asked-bar : (k : K) → KeyBar (M .asked k)) (kept-bar : (k : K) → KeyBar (M .kept k)) where
+module _ {K W : Type 0} (M : Store K W) (asked-bar : (k : K) → KeyBar (M .asked k)) (kept-bar : (k : K) → KeyBar (M .kept k)) (carried-none : (m : M .State) → M .carried m ≡ 0) where
   own-rising : (w : World M) (x : ℕ) (c : Own K W) → Rising 0 (rows M w x (own c))
   own-rising w x makes = up (omega arith) rises-end
   own-rising w x clears = up (omega arith) rises-end
@@ -55,6 +58,7 @@ module _ {K W : Type 0} (M : Store K W) (asked-bar : (k : K) → KeyBar (M .aske
   own-rising w x (removes k) = keyed (asked-bar k) (λ a l. up l rises-end)
   own-rising w x (entries k) = keyed (kept-bar k) (λ a l. up l (up (omega arith) (up (omega arith) rises-end)))
   own-rising w x (inserts k v) = keyed (kept-bar k) (λ a l. up l (up (omega arith) (up (omega arith) rises-end)))
+  own-rising w x (puts k v) = up (omega arith) (up (omega arith) (up (omega arith) (up (omega arith) rises-end)))
   own-rising w x (occupied-gets s k) = keyed (asked-bar k) (λ a l. up l (up (omega arith) rises-end))
   own-rising w x (occupied-removes s k) = keyed (asked-bar k) (λ a l. up l (up (omega arith) rises-end))
   own-rising w x (occupied-sets s k v) = keyed (asked-bar k) (λ a l. up l (up (omega arith) rises-end))
@@ -64,18 +68,16 @@ module _ {K W : Type 0} (M : Store K W) (asked-bar : (k : K) → KeyBar (M .aske
   own-rising w x (insert-entries (on-occupied s) k v) = keyed (asked-bar k) (λ a l. up l (up (omega arith) rises-end))
   own-rising w x (insert-entries (on-vacant s) k v) = keyed (kept-bar k) (λ a l. up l (up (omega arith) rises-end))
 
-  rising : (w : World M) (x : ℕ) (c : Call K W) → Rising 0 (rows M w x c)
+  -- the numbers of every call's rows rise
+  pub rising : (w : World M) (x : ℕ) (c : Call K W) → Rising 0 (rows M w x c)
   rising w x (own c) = own-rising w x c
   rising w x (copies y) = up (omega arith) rises-end
-  rising w x (unions y) = up (omega arith) (up (omega arith) (up (omega arith) (up (omega arith) rises-end)))
+  rising w x (unions y) = up (omega arith) (up (omega arith) (passed-over (carried-none (w y)) (up (omega arith) (up (omega arith) rises-end))))
   rising w x (steps a b) = up (omega arith) (up (omega arith) (up (omega arith) (up (omega arith) rises-end)))
 
-  -- the lowest number that applies is given, 0 where none does
-  pub lowest-given : ((m : M .State) (k : K) → M .sized m ≡ true → M .home m k < M .size m) → (w : World M) (x : ℕ) (c : Call K W) → Least (rows M w x c) (refusal (answer M w x c))
-  lowest-given homes w x c = record {
-    applies = first-applies (rows M w x c) (refusal (answer M w x c)) (demand-1 M homes w x c);
-    least = first-least (rows M w x c) (refusal (answer M w x c)) 0 (demand-1 M homes w x c) (rising w x c);
-  }
+-- where the numbers of the rows rise, the first that applies is the lowest
+pub lowest : (rs : List Row) (n : ℕ) → Rising 0 rs → First rs n → Least rs n
+lowest rs n r f = record { applies = first-applies rs n f; least = first-least rs n 0 f r }
 
 -- a refused call leaves every lent place as it was
 module _ {K W : Type 0} (M : Store K W) where
@@ -100,7 +102,7 @@ module _ {K W : Type 0} (M : Store K W) where
   still-removed m (ok u) e = clash cc
 
   own-still : (m : M .State) (c : Own K W) → refuses (tells M m c) ≡ true → leaves M m c ≡ m
-  unfolding tells leaves refuses after-make after-insert after-remove after-set after-drop after-fill vacant-insert or-insert after-or-insert insert-entry after-insert-entry
+  unfolding tells leaves refuses after-make after-insert after-put after-remove after-set after-drop after-fill vacant-insert or-insert after-or-insert insert-entry after-insert-entry
   own-still m makes e = still (λ n. fine) (λ a. refl) m (capacity M m) (M .wipe m) e
   own-still m clears e = still (λ n. fine) (λ a. refl) m (capacity M m) (M .wipe m) e
   own-still m capacities e = refl
@@ -112,6 +114,7 @@ module _ {K W : Type 0} (M : Store K W) where
   own-still m (removes k) e = still-removed m (remove M m k) e
   own-still m (entries k) e = refl
   own-still m (inserts k v) e = still-stored m k v (entry M m k) e
+  own-still m (puts k v) e = still-stored m k v (put-spot M m k) e
   own-still m (occupied-gets s k) e = refl
   own-still m (occupied-removes s k) e = still value (λ a. refl) m (occupied-remove M m s k) (M .free m s) e
   own-still m (occupied-sets s k v) e = still value (λ a. refl) m (occupied-get M m s k) (M .over m s v) e

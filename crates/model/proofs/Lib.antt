@@ -21,5 +21,6 @@ pub mod Demand1
 pub mod Least
 pub mod Laws
 pub mod Running
+pub mod Runs
 pub mod Places
 pub mod Numbered

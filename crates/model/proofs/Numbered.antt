@@ -8,9 +8,9 @@ use lib.Dec.{ltb, leb, eqb}
 use Rattle.model.specs.Slots.{Slot, never, freed, damaged, live}
 use Rattle.model.specs.Path.{Find, hit, miss, damage, from}
 use Rattle.model.specs.Store.{Store, path, used}
-use Rattle.model.specs.Calls.{Or, no, ok, need, pass, give, Spot, occupied, vacant, on-occupied, on-vacant, seenBy, spotBy, get, entry, remove, capacity, length, reserve, copy, union, heldOn, heldAt, occupied-get, occupied-remove, goodFor, vacancy, vacant-insert, or-insert, insert-entry}
+use Rattle.model.specs.Calls.{Or, no, ok, need, pass, give, Spot, occupied, vacant, on-occupied, on-vacant, seenBy, spotBy, get, entry, put-spot, remove, capacity, length, reserve, copy, union, heldOn, heldAt, occupied-get, occupied-remove, goodFor, vacancy, vacant-insert, or-insert, insert-entry}
 use Rattle.model.specs.Walk.{halts, halted, reachOf, stepWithin, pace, step}
-use Rattle.model.specs.Machine.{makes, clears, capacities, lens, empties, reserves, gets, contains-keys, removes, entries, inserts, occupied-gets, occupied-removes, occupied-sets, vacant-inserts, or-inserts, insert-entries, Call, own, copies, unions, steps, Answer, fine, number, truth, seen, spot, value, stepped, report, World, tells, stepping, answer}
+use Rattle.model.specs.Machine.{makes, clears, capacities, lens, empties, reserves, gets, contains-keys, removes, entries, inserts, puts, occupied-gets, occupied-removes, occupied-sets, vacant-inserts, or-inserts, insert-entries, Call, own, copies, unions, steps, Answer, fine, number, truth, seen, spot, value, stepped, report, World, tells, stepping, answer}
 use Rattle.model.specs.Demand1.{refusal}
 use Rattle.model.specs.Demand2.{refuses}
 use Rattle.model.proofs.Cases.{by-bool}
@@ -103,6 +103,10 @@ module _ {K W : Type 0} (M : Store K W) where
     unfolding entry
     entry-numbered k = by-need (M .sized m) 0 _ (by-pass (M .kept k) _ (by-need (not (M .damagedFully m)) 4 _ (spot-numbered m k (path M m k))))
 
+    put-numbered : (k : K) → Numbered (put-spot M m k)
+    unfolding put-spot
+    put-numbered k = by-need (M .sized m) 0 _ (by-need (not (M .damagedFully m)) 4 _ (spot-numbered m k (path M m k)))
+
     reserve-numbered : (n : ℕ) → Numbered (reserve M m n)
     unfolding reserve
     reserve-numbered n = by-need (M .sized m) 0 _ (by-need _ 4 _ (by-need _ 6 _ (numbered-ok _)))
@@ -114,7 +118,7 @@ module _ {K W : Type 0} (M : Store K W) where
 
   pub union-numbered : (l r : M .State) → Numbered (union M l r)
   unfolding union
-  union-numbered l r = by-need _ 0 _ (by-need _ 0 _ (by-need _ 4 _ (by-need _ 4 _ (by-need _ 6 _ (by-need _ 7 _ (numbered-ok _))))))
+  union-numbered l r = by-need _ 0 _ (by-need _ 0 _ (by-need _ 4 _ (by-need _ 4 _ (by-pass (M .carried r) _ (by-need _ 6 _ (by-need _ 7 _ (numbered-ok _)))))))
 
   -- the answer was refused exactly when its number is not 0
   reports : {A : Type 0} (f : A → Answer K W) → ((a : A) → (refuses (f a) ≡ false) × (refusal (f a) ≡ 0)) → (a : Or A) → Numbered a → refuses (report f a) ≡ not (eqb (refusal (report f a)) 0)
@@ -135,6 +139,7 @@ module _ {K W : Type 0} (M : Store K W) where
   told-refused w x (own (removes k)) = reports seen (λ a. (refl, refl)) _ (remove-numbered (w x) k)
   told-refused w x (own (entries k)) = reports spot (λ a. (refl, refl)) _ (entry-numbered (w x) k)
   told-refused w x (own (inserts k v)) = reports spot (λ a. (refl, refl)) _ (entry-numbered (w x) k)
+  told-refused w x (own (puts k v)) = reports spot (λ a. (refl, refl)) _ (put-numbered (w x) k)
   told-refused w x (own (occupied-gets s k)) = reports value (λ a. (refl, refl)) _ (held-numbered (w x) s k)
   told-refused w x (own (occupied-removes s k)) = reports value (λ a. (refl, refl)) _ (taken-numbered (w x) s k)
   told-refused w x (own (occupied-sets s k v)) = reports value (λ a. (refl, refl)) _ (held-numbered (w x) s k)

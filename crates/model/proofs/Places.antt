@@ -1,20 +1,22 @@
 -- A call changes no lent place that its rule does not name, on any memory.
 use Prim.Native.Nat.{ℕ}
-use mathlib.Core.Bool.{Bool, true, false, not}
+use mathlib.Core.Bool.{Bool, true, false, not, _&&_}
 use mathlib.Core.List.{List, [], _∷_}
-use mathlib.Core.Path.{_≡_, refl, _∙_}
+use mathlib.Core.Path.{_≡_, refl, sym, _∙_, ap}
 use native.Mathlib.Omega.{arith}
 use borrow.Author.Tests.{lt-ltb}
-use Rattle.model.proofs.Cases.{neither, clash}
+use lib.Dec.{eqb}
+use Rattle.model.proofs.Cases.{by-eq, neither, clash}
 use Rattle.model.specs.Slots.{pairs}
 use Rattle.model.specs.Path.{Find, hit, miss, damage}
 use Rattle.model.specs.Store.{Store, path, slotAt}
-use Rattle.model.specs.Calls.{Or, no, ok, need, pass, Seen, found, absent, Spot, occupied, vacant, on-occupied, on-vacant, entry, storedBy, after-insert, remove, removedBy, after-remove, acted, capacity, after-make, copy, after-copy, ruleBy, rule, storeAll, union, after-union, occupied-get, after-set, occupied-remove, after-drop, vacancy, after-fill, after-or-insert, after-insert-entry, spotBy, seenBy}
-use Rattle.model.specs.Machine.{Own, makes, clears, capacities, lens, empties, reserves, gets, contains-keys, removes, entries, inserts, occupied-gets, occupied-removes, occupied-sets, vacant-inserts, or-inserts, insert-entries, own, copies, unions, steps, leaves, left}
+use Rattle.model.specs.Calls.{Or, no, ok, need, pass, Seen, found, absent, Spot, occupied, vacant, on-occupied, on-vacant, entry, storedBy, after-insert, put-spot, after-put, remove, removedBy, after-remove, acted, capacity, after-make, copy, after-copy, ruleBy, rule, storeAll, union, after-union, occupied-get, after-set, occupied-remove, after-drop, vacancy, after-fill, after-or-insert, after-insert-entry, spotBy, seenBy}
+use Rattle.model.specs.Machine.{Own, makes, clears, capacities, lens, empties, reserves, gets, contains-keys, removes, entries, inserts, puts, occupied-gets, occupied-removes, occupied-sets, vacant-inserts, or-inserts, insert-entries, Call, own, copies, unions, steps, World, placed, leaves, left, turned}
 use Rattle.model.specs.Lawful.{Steady}
-use Rattle.model.specs.Places.{Places, Apart, accepted, insert-names, remove-names, handle-names, own-names, rule-names, all-names, names, OnlyNamed}
+use Rattle.model.specs.Places.{Places, Apart, accepted, insert-names, remove-names, handle-names, own-names, rule-names, all-names, names, run-names, OnlyNamed}
+use Rattle.model.specs.Runs.{run}
 use Rattle.model.proofs.Path.{at-below}
-use Rattle.model.proofs.Accepted.{need-ok, pass-ok, seen-found, spot-vacant, grip-live, good-vacant, entry-spot, remove-seen, removed-grip, vacancy-good}
+use Rattle.model.proofs.Accepted.{need-ok, pass-ok, seen-found, spot-vacant, grip-live, good-vacant, entry-spot, put-taken, remove-seen, removed-grip, vacancy-good}
 use Rattle.model.proofs.Keeps.{path-live}
 use Rattle.model.proofs.Running.{Roomy, slot-left, bytes-there, free-slot, one-more, union-roomy}
 
@@ -35,13 +37,22 @@ module _ {K W : Type 0} (M : Store K W) (P : Places M) (A : Apart M P) (T : Stea
       let (f, a, i, l, b) = spot-vacant M m k s e q in
       A .fill-apart m s k v p z h (rw i (at-below (M .size m) (M .home m k) f (T .homes m k z) l)) (omega (arith, T .room m z h)) d
 
-  insert-kept : (m : M .State) (k : K) (v : W) (a : Or (Spot W)) → entry M m k ≡ a → insert-names M P p m k a ≡ false → P .word (storedBy M m k v a) p ≡ P .word m p
-  unfolding insert-names storedBy entry
-  insert-kept m k v (no n) q d = refl
-  insert-kept m k v (ok (occupied s w e)) q d = A .over-apart m s v p d
-  insert-kept m k v (ok (vacant s e)) q d =
-      let (z, h) = passed m (M .kept k) (spotBy M m k (path M m k)) (vacant s e) q in
-      fill-kept m s e k v z h (entry-spot M m k (vacant s e) q) d
+  -- insert's rule after the tests of a storing call, for a key whose own refusal is n
+  stored-kept : (m : M .State) (k : K) (v : W) (n : ℕ) (a : Or (Spot W)) → need (M .sized m) 1 (pass n (need (not (M .damagedFully m)) 5 (spotBy M m k (path M m k)))) ≡ a → ((x : Spot W) → a ≡ ok x → spotBy M m k (path M m k) ≡ ok x) → insert-names M P p m k a ≡ false → P .word (storedBy M m k v a) p ≡ P .word m p
+  unfolding insert-names storedBy
+  stored-kept m k v n (no r) q h d = refl
+  stored-kept m k v n (ok (occupied s w e)) q h d = A .over-apart m s v p d
+  stored-kept m k v n (ok (vacant s e)) q h d =
+      let (z, u) = passed m n (spotBy M m k (path M m k)) (vacant s e) q in
+      fill-kept m s e k v z u (h (vacant s e) refl) d
+
+  insert-kept : (m : M .State) (k : K) (v : W) → insert-names M P p m k (entry M m k) ≡ false → P .word (storedBy M m k v (entry M m k)) p ≡ P .word m p
+  unfolding entry
+  insert-kept m k v d = stored-kept m k v (M .kept k) (entry M m k) refl (entry-spot M m k) d
+
+  put-kept : (m : M .State) (k : K) (v : W) → insert-names M P p m k (put-spot M m k) ≡ false → P .word (storedBy M m k v (put-spot M m k)) p ≡ P .word m p
+  unfolding put-spot pass
+  put-kept m k v d = stored-kept m k v 0 (put-spot M m k) refl (put-taken M m k) d
 
   remove-kept : (m : M .State) (k : K) (a : Or (Seen W)) → remove M m k ≡ a → remove-names M P p m a ≡ false → P .word (removedBy M m a) p ≡ P .word m p
   unfolding remove-names removedBy remove
@@ -80,7 +91,7 @@ module _ {K W : Type 0} (M : Store K W) (P : Places M) (A : Apart M P) (T : Stea
   all-kept m n (ok x) d = clash cc
 
   own-kept : (m : M .State) (c : Own K W) → own-names M P p m c ≡ false → P .word (leaves M m c) p ≡ P .word m p
-  unfolding own-names leaves handle-names after-make after-insert after-remove after-set after-drop after-fill after-or-insert after-insert-entry
+  unfolding own-names leaves handle-names after-make after-insert after-put after-remove after-set after-drop after-fill after-or-insert after-insert-entry
   own-kept m makes d = all-kept m (M .wipe m) (capacity M m) d
   own-kept m clears d = all-kept m (M .wipe m) (capacity M m) d
   own-kept m capacities d = refl
@@ -91,7 +102,8 @@ module _ {K W : Type 0} (M : Store K W) (P : Places M) (A : Apart M P) (T : Stea
   own-kept m (contains-keys k) d = refl
   own-kept m (removes k) d = remove-kept m k (remove M m k) refl d
   own-kept m (entries k) d = refl
-  own-kept m (inserts k v) d = insert-kept m k v (entry M m k) refl d
+  own-kept m (inserts k v) d = insert-kept m k v d
+  own-kept m (puts k v) d = put-kept m k v d
   own-kept m (occupied-gets s k) d = refl
   own-kept m (occupied-removes s k) d = drop-kept m s k (occupied-remove M m s k) refl d
   own-kept m (occupied-sets s k v) d = set-kept m s v (occupied-get M m s k) d
@@ -128,6 +140,16 @@ only-named M P A T w x (own c) p d = own-kept M P A T p (w x) c d
 only-named M P A T w x (copies y) p d = all-kept M P A T p (w x) (w y) (copy M (w x) (w y)) d
 only-named M P A T w x (unions y) p d = united M P A T p (w x) (w y) (union M (w x) (w y)) refl d
 only-named M P A T w x (steps a b) p d = refl
+
+-- Nor does a list of calls, on any table.
+pub run-named : {K W : Type 0} (M : Store K W) (P : Places M) → Apart M P → Steady M → (cs : List (ℕ × Call K W)) (w : World M) (y : ℕ) (p : P .Place) → run-names M P p y w cs ≡ false → P .word (run M w cs y) p ≡ P .word (w y) p
+unfolding run run-names turned placed
+run-named M P A T [] w y p d = refl
+run-named M P A T (c ∷ cs) w y p d =
+    let (a, b) = neither (eqb y (c .0) && names M P p w (c .0) (c .1)) (run-names M P p y (turned M w (c .0) (c .1)) cs) d in
+    run-named M P A T cs (turned M w (c .0) (c .1)) y p b ∙ by-eq y (c .0)
+    (λ r t. rw t (only-named M P A T w (c .0) (c .1) p (rw t at a) ∙ ap (λ z. P .word (w z) p) (sym r)))
+    (λ r t. rw t)
 
 module _ {K W : Type 0} (M : Store K W) (P : Places M) (p : P .Place) (m : M .State) where
   -- A call that only reads names no place.

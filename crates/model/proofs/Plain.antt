@@ -30,7 +30,7 @@ module _ {K W : Type 0} (E : Keys K) (weight : K → ℕ) where
   wrote m t l = record { slots = refl; size = refl; home = refl; bytes = refl; sized = refl; good = l }
 
   pub plain-lawful : Lawful (plain {W = W} E weight)
-  unfolding used frees weigh revalued made
+  unfolding used frees weigh revalued made reslotted
   plain-lawful = record {
     homes = λ m k e. by-lt (m .home k) (m .size) (λ l x. rw x l) (λ l x. rw x (ltb-true 0 (m .size) e));
     unharmed = λ m e g s. le-ltb (m .bytes) (total weight (m .slots) (m .size)) g;
@@ -39,6 +39,10 @@ module _ {K W : Type 0} (E : Keys K) (weight : K → ℕ) where
     fill-wrote = λ m i k v e g l q u. wrote m (put (m .slots) i (live k v)) (omega (arith, total-put weight (m .slots) i (live k v) (m .size) l));
     free-wrote = λ m i k w e g l q. wrote m (put (m .slots) i freed) (omega (arith, total-put weight (m .slots) i freed (m .size) l));
     wipe-wrote = λ m e. wrote m made (omega (arith, total-dead {W = W} weight made (m .size) (λ i l a v q. clash cc)));
+    over-size = λ m i v. refl;
+    fill-size = λ m i k v. refl;
+    free-size = λ m i. refl;
+    wipe-size = λ m. refl;
   }
 
   -- a made table has the sizes that it had

@@ -17,7 +17,7 @@ use Rattle.model.proofs.Cases.{by-bool, by-lt, by-eq, by-same, clash}
 use Rattle.model.proofs.Slots.{put-same, put-other, by-put, total-put, damaged-not, damaged-bad, count-high}
 use Rattle.model.proofs.Path.{place, place-below, at-place, at-once, at-below, stop-before, Ended, ended-hit, find-ended, hit-at, hurt-at, find-hit, free-here}
 use Rattle.model.proofs.Sound.{no-free-full}
-use Rattle.model.proofs.Accepted.{need-ok}
+use Rattle.model.proofs.Accepted.{need-ok, pass-ok}
 use Rattle.model.proofs.Pairs.{total-pairs}
 use Rattle.model.proofs.Keeps.{path-live, path-free}
 
@@ -202,7 +202,8 @@ module _ {K W : Type 0} (M : Store K W) where
       let y = need-ok (M .sized r) 1 _ u x .1 in
       let (c, z) = need-ok (not (anyDamage M l)) 5 _ u y in
       let d = need-ok (not (anyDamage M r)) 5 _ u z .1 in
-      let (f, g) = need-ok (leb (needs M (λ k. 1) l r) (M .size l - live-count M l)) 7 _ u d in
+      let c′ = pass-ok (M .carried r) _ u d .1 in
+      let (f, g) = need-ok (leb (needs M (λ k. 1) l r) (M .size l - live-count M l)) 7 _ u c′ in
       let (h, i) = need-ok (leb (needs M (M .weight) l r) (M .bytes l - used M l)) 8 _ u g in
       let (hu, ha) = both-false (damagedSlots M l) (M .damagedFully l) c in
       record {

@@ -11,14 +11,14 @@ use Rattle.model.specs.Slots.{live, frees, total, pairs, look}
 use Rattle.model.specs.Path.{miss, freeAt}
 use Rattle.model.specs.Finite.{Finite, isSome, orElse, contains, mass, len, insert, union-prefer-right, firsts, insertAll}
 use Rattle.model.specs.Store.{Store, path, slotAt, pathLength, live-count, used}
-use Rattle.model.specs.Calls.{ok, need, ruleBy, rule, storeAll, missed, lacking, needs, anyDamage, union, acted, after-union}
+use Rattle.model.specs.Calls.{ok, need, pass, ruleBy, rule, storeAll, missed, lacking, needs, anyDamage, union, acted, after-union}
 use Rattle.model.specs.Lawful.{Lawful, Shows}
 use Rattle.model.proofs.Cases.{by-bool}
 use Rattle.model.proofs.Path.{at-below, free-here}
 use Rattle.model.proofs.Finite.{union-proper, union-mass, insert-mass}
 use Rattle.model.proofs.Pairs.{insertAll-look, last-look, lacking-less, total-pairs}
 use Rattle.model.proofs.Shows.{home-below, shows-total, shows-over, shows-fill, PathOf, here, gone, path-of, room-free, shows-unhurt, shows-unharmed}
-use Rattle.model.proofs.Accepted.{need-ok}
+use Rattle.model.proofs.Accepted.{need-ok, pass-ok}
 use Rattle.model.proofs.Exact.{live-len, used-mass, len-high, used-high}
 use Rattle.model.proofs.Keeps.{shows-same}
 
@@ -115,7 +115,8 @@ module _ {K W : Type 0} (M : Store K W) (L : Lawful M) where
         let b = need-ok (M .sized r) 1 _ u a .1 in
         let c = need-ok (not (anyDamage M l)) 5 _ u b .1 in
         let d = need-ok (not (anyDamage M r)) 5 _ u c .1 in
-        let x = need-ok (leb (needs M (λ k. 1) l r) (M .size l - live-count M l)) 7 _ u d in
+        let z = pass-ok (M .carried r) _ u d .1 in
+        let x = need-ok (leb (needs M (λ k. 1) l r) (M .size l - live-count M l)) 7 _ u z in
         let y = need-ok (leb (needs M (M .weight) l r) (M .bytes l - used M l)) 8 _ u (x .1) in (
           omega (arith, leb-true (needs M (λ k. 1) l r) (M .size l - live-count M l) (x .0), needs-pairs (λ k. 1), live-length, len-high M L l f s),
           omega (arith, leb-true (needs M (M .weight) l r) (M .bytes l - used M l) (y .0), needs-pairs (M .weight), used-mass M L l f s, used-high M L l f s),
@@ -134,8 +135,8 @@ module _ {K W : Type 0} (M : Store K W) (L : Lawful M) where
     unfolding needs
     lacked-needs g = rw (lacking-mass l f s g)
 
-    -- what a union with ANY right answers: its sizes and its damage, then the slots and bytes that the map's lacking keys need, counted over its live slots
-    pub union-any : union M l r ≡ need (M .sized r) 1 (need (not (anyDamage M r)) 5 (need (leb (total (λ k. cond (contains f k) 0 1) (M .slots r) (M .size r)) (M .size l - mass (λ k. 1) (f .dom))) 7 (need (leb (total (λ k. cond (contains f k) 0 (M .weight k)) (M .slots r) (M .size r)) (M .bytes l - mass (M .weight) (f .dom))) 8 (ok tt))))
+    -- what a union with ANY right answers: its sizes, its damage and its keys, then the slots and bytes that the map's lacking keys need, counted over its live slots
+    pub union-any : union M l r ≡ need (M .sized r) 1 (need (not (anyDamage M r)) 5 (pass (M .carried r) (need (leb (total (λ k. cond (contains f k) 0 1) (M .slots r) (M .size r)) (M .size l - mass (λ k. 1) (f .dom))) 7 (need (leb (total (λ k. cond (contains f k) 0 (M .weight k)) (M .slots r) (M .size r)) (M .bytes l - mass (M .weight) (f .dom))) 8 (ok tt)))))
     unfolding union need anyDamage
     union-any = rw (s .soundTable .sized, shows-unhurt M L l f s, shows-unharmed M L l f s, lacked-needs (λ k. 1), lacked-needs (M .weight), live-length, used-mass M L l f s)
 
@@ -151,8 +152,8 @@ module _ {K W : Type 0} (M : Store K W) (L : Lawful M) where
       unfolding needs
       needs-mass w = rw (lacking-mass l f s w) (shows-total M L r g t (λ k. cond (contains f k) 0 (w k)))
 
-      -- refused exactly when the union would have more keys than slots, or more bytes than the arena
-      pub union-known : union M l r ≡ need (leb (mass (λ k. 1) (union-prefer-right f g .dom)) (M .size l)) 7 (need (leb (mass (M .weight) (union-prefer-right f g .dom)) (M .bytes l)) 8 (ok tt))
+      -- refused for a key of the right, and else exactly when the union would have more keys than slots, or more bytes than the arena
+      pub union-known : union M l r ≡ pass (M .carried r) (need (leb (mass (λ k. 1) (union-prefer-right f g .dom)) (M .size l)) 7 (need (leb (mass (M .weight) (union-prefer-right f g .dom)) (M .bytes l)) 8 (ok tt)))
       unfolding union need anyDamage
       union-known =
           let a = union-mass (M .keys) (λ k. 1) f g in
@@ -160,9 +161,9 @@ module _ {K W : Type 0} (M : Store K W) (L : Lawful M) where
           let one = needs-mass (λ k. 1) in
           let all = needs-mass (M .weight) in
           rw (s .soundTable .sized, t .soundTable .sized, shows-unhurt M L l f s, shows-unharmed M L l f s, shows-unhurt M L r g t, shows-unharmed M L r g t)
-          (by-bool (leb (needs M (λ k. 1) l r) (M .size l - live-count M l))
+          (ap (pass (M .carried r)) (by-bool (leb (needs M (λ k. 1) l r) (M .size l - live-count M l))
           (λ x. rw (x, le-leb (mass (λ k. 1) (union-prefer-right f g .dom)) (M .size l) (omega (arith, leb-true (needs M (λ k. 1) l r) (M .size l - live-count M l) x, live-length, len-high M L l f s)))
           (by-bool (leb (needs M (M .weight) l r) (M .bytes l - used M l))
           (λ y. rw (y, le-leb (mass (M .weight) (union-prefer-right f g .dom)) (M .bytes l) (omega (arith, leb-true (needs M (M .weight) l r) (M .bytes l - used M l) y, used-mass M L l f s, used-high M L l f s))))
           (λ y. rw (y, lt-leb (mass (M .weight) (union-prefer-right f g .dom)) (M .bytes l) (omega (arith, leb-false (needs M (M .weight) l r) (M .bytes l - used M l) y, used-mass M L l f s))))))
-          (λ x. rw (x, lt-leb (mass (λ k. 1) (union-prefer-right f g .dom)) (M .size l) (omega (arith, leb-false (needs M (λ k. 1) l r) (M .size l - live-count M l) x, live-length)))))
+          (λ x. rw (x, lt-leb (mass (λ k. 1) (union-prefer-right f g .dom)) (M .size l) (omega (arith, leb-false (needs M (λ k. 1) l r) (M .size l - live-count M l) x, live-length))))))

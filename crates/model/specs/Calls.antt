@@ -80,6 +80,14 @@ module _ {K W : Type 0} (M : Store K W) where
   unfoldable pub after-insert : M .State → K → W → M .State
   after-insert m k v = storedBy m k v (entry m k)
 
+  -- A put is insert without the key's test: what a table or an image carries from elsewhere goes in by it.
+  unfoldable pub put-spot : M .State → K → Or (Spot W)
+  put-spot m k = need (M .sized m) 1 (need (not (M .damagedFully m)) 5 (spotBy m k (path M m k)))
+
+  -- The memory after a put: as its answer says.
+  unfoldable pub after-put : M .State → K → W → M .State
+  after-put m k v = storedBy m k v (put-spot m k)
+
   -- remove: a lookup after the tests of storing calls; the found slot is freed.
   unfoldable pub remove : M .State → K → Or (Seen W)
   remove m k = need (M .sized m) 1 (pass (M .asked k) (need (not (M .damagedFully m)) 5 (seenBy m k (path M m k))))
@@ -156,13 +164,14 @@ module _ {K W : Type 0} (M : Store K W) where
   unfoldable pub anyDamage : M .State → Bool
   anyDamage m = cond (damagedSlots M m) true (M .damagedFully m)
 
-  -- union examines every slot of both before storing, and needs slots and bytes for the keys that the left lacks.
+  -- union examines every slot of both before storing, may refuse a key that the right carries, and needs slots and bytes for the keys that the left lacks.
   unfoldable pub union : M .State → M .State → Or (Unit {0})
   union l r =
       need (M .sized l) 1 (need (M .sized r) 1
       (need (not (anyDamage l)) 5 (need (not (anyDamage r)) 5
+      (pass (M .carried r)
       (need (leb (needs (λ k. 1) l r) (M .size l - live-count M l)) 7
-      (need (leb (needs (M .weight) l r) (M .bytes l - used M l)) 8 (ok tt))))))
+      (need (leb (needs (M .weight) l r) (M .bytes l - used M l)) 8 (ok tt)))))))
 
   -- The right's pairs go in by the right's slot order.
   unfoldable pub after-union : M .State → M .State → M .State

@@ -7,7 +7,7 @@ use mathlib.Core.Path.{_≡_}
 use Rattle.model.specs.Slots.{damaged, live}
 use Rattle.model.specs.Store.{Store, pathLength, slotAt, live-count, used}
 use Rattle.model.specs.Calls.{Or, no, ok, vacant, Handle, on-occupied, on-vacant, entry, needs}
-use Rattle.model.specs.Machine.{Own, makes, clears, capacities, lens, empties, reserves, gets, contains-keys, removes, entries, inserts, occupied-gets, occupied-removes, occupied-sets, vacant-inserts, or-inserts, insert-entries, Call, own, copies, unions, steps, Answer, refused, fine, number, truth, seen, spot, value, stepped, World}
+use Rattle.model.specs.Machine.{Own, makes, clears, capacities, lens, empties, reserves, gets, contains-keys, removes, entries, inserts, puts, occupied-gets, occupied-removes, occupied-sets, vacant-inserts, or-inserts, insert-entries, Call, own, copies, unions, steps, Answer, refused, fine, number, truth, seen, spot, value, stepped, World}
 
 -- A row of the table: a refusal's number, and when it applies.
 pub data Row : Type 1 where
@@ -104,11 +104,19 @@ module _ {K W : Type 0} (M : Store K W) where
     abbrev pub remove-rows : K → List Row
     remove-rows k = sizes ∷ asked-key k ∷ stored-damage k ∷ []
 
-    -- insert and entry: an absent key wants a slot that is not live, and its bytes.
-    abbrev pub place-rows : K → List Row
-    place-rows k = sizes ∷ kept-key k ∷ stored-damage k
+    -- An absent key wants a slot that is not live, and its bytes.
+    abbrev pub room-rows : K → List Row
+    room-rows k = stored-damage k
         ∷ row 7 (Absent k × (live-count M m ≡ M .size m))
         ∷ row 8 (Absent k × (M .bytes m - used M m < M .weight k)) ∷ []
+
+    -- insert and entry: a key to be stored, and its room.
+    abbrev pub place-rows : K → List Row
+    place-rows k = sizes ∷ kept-key k ∷ room-rows k
+
+    -- A put: the same for any key.
+    abbrev pub put-rows : K → List Row
+    put-rows k = sizes ∷ room-rows k
 
     -- 6: an occupied handle is good exactly when its slot is live and holds the key.
     abbrev not-held : ℕ → K → Row
@@ -140,6 +148,7 @@ module _ {K W : Type 0} (M : Store K W) where
   union-rows l r =
       row 1 ((M .sized l ≡ false) ⊎ (M .sized r ≡ false))
       ∷ row 5 ((DamagedSomewhere l ⊎ (M .damagedFully l ≡ true)) ⊎ (DamagedSomewhere r ⊎ (M .damagedFully r ≡ true)))
+      ∷ row (M .carried r) (M .carried r ≡ 0 → ⊥)
       ∷ row 7 (M .size l - live-count M l < needs M (λ k. 1) l r)
       ∷ row 8 (M .bytes l - used M l < needs M (M .weight) l r) ∷ []
 
@@ -161,6 +170,7 @@ module _ {K W : Type 0} (M : Store K W) where
   own-rows m (removes k) = remove-rows m k
   own-rows m (entries k) = place-rows m k
   own-rows m (inserts k v) = place-rows m k
+  own-rows m (puts k v) = put-rows m k
   own-rows m (occupied-gets s k) = grip-rows m s k
   own-rows m (occupied-removes s k) = drop-rows m s k
   own-rows m (occupied-sets s k v) = grip-rows m s k

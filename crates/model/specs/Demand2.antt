@@ -9,7 +9,7 @@ use Rattle.model.specs.Slots.{live, holds, pairs}
 use Rattle.model.specs.Finite.{Finite, contains, mass, len, empty, insert, remove, union-prefer-right, insertAll}
 use Rattle.model.specs.Store.{Store, pathLength}
 use Rattle.model.specs.Calls.{no, ok, occupied, vacant, on-occupied, on-vacant, entry}
-use Rattle.model.specs.Machine.{Own, makes, clears, capacities, lens, empties, reserves, gets, contains-keys, removes, entries, inserts, occupied-gets, occupied-removes, occupied-sets, vacant-inserts, or-inserts, insert-entries, Call, own, copies, unions, steps, Answer, refused, fine, number, truth, seen, spot, value, stepped, World, placed, answer, turned}
+use Rattle.model.specs.Machine.{Own, makes, clears, capacities, lens, empties, reserves, gets, contains-keys, removes, entries, inserts, puts, occupied-gets, occupied-removes, occupied-sets, vacant-inserts, or-inserts, insert-entries, Call, own, copies, unions, steps, Answer, refused, fine, number, truth, seen, spot, value, stepped, World, placed, answer, turned}
 
 -- Whether an answer is a refusal.
 unfoldable pub refuses : {K W : Type 0} → Answer K W → Bool
@@ -40,6 +40,7 @@ module _ {K W : Type 0} (M : Store K W) where
   grows (removes k) f = remove (M .keys) f k
   grows (entries k) f = f
   grows (inserts k v) f = insert (M .keys) f k v
+  grows (puts k v) f = insert (M .keys) f k v
   grows (occupied-gets s k) f = f
   grows (occupied-removes s k) f = remove (M .keys) f k
   grows (occupied-sets s k v) f = insert (M .keys) f k v
@@ -61,6 +62,7 @@ module _ {K W : Type 0} (M : Store K W) where
   renews (removes k) = false
   renews (entries k) = false
   renews (inserts k v) = false
+  renews (puts k v) = false
   renews (occupied-gets s k) = false
   renews (occupied-removes s k) = false
   renews (occupied-sets s k v) = false
@@ -86,9 +88,9 @@ module _ {K W : Type 0} (M : Store K W) where
   next w e x (unions y) = joined (e x) (e y) (pairs (M .slots (w y)) (M .size (w y)))
   next w e x (steps a b) = e x
 
-  -- What is known after any call: as before where it is refused.
+  -- What is known of all tables after an accepted call on the table x.
   unfoldable pub becomes : World M → (ℕ → Option (Finite K W)) → ℕ → Call K W → ℕ → Option (Finite K W)
-  becomes w e x c = placed e x (cond (refuses (answer M w x c)) (e x) (next w e x c))
+  becomes w e x c = placed e x (next w e x c)
 
   -- Whether an occupied handle is good: its slot is live and holds the key.
   unfoldable pub holdsNow : M .State → ℕ → K → Bool
@@ -107,6 +109,7 @@ module _ {K W : Type 0} (M : Store K W) where
   keyOf (removes k) = some k
   keyOf (entries k) = some k
   keyOf (inserts k v) = some k
+  keyOf (puts k v) = some k
   keyOf (occupied-gets s k) = none
   keyOf (occupied-removes s k) = none
   keyOf (occupied-sets s k v) = none
@@ -126,6 +129,6 @@ pub record Book {K W : Type 0} (M : Store K W) : Type 0 where
   pub world : World M
   pub maps : ℕ → Option (Finite K W)
 
--- The book after a call.
+-- The book after an accepted call.
 abbrev pub booked : {K W : Type 0} (M : Store K W) → Book M → ℕ → Call K W → Book M
 booked M s x c = record { world = turned M (s .world) x c; maps = becomes M (s .world) (s .maps) x c }

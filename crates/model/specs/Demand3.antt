@@ -23,9 +23,9 @@ pub record Machine (K W : Type 0) : Type 1 where
   pub size : ℕ
   -- the table's finite map, where it is known
   pub map : State → Option (Finite K W)
-  -- the state after a call; whether the call counts as removing every key
+  -- the state after a call; whether the call counts as removing the key on its way
   pub after : State → Call → State
-  pub wipes : State → Call → Bool
+  pub drops : State → Call → K → Bool
   -- what a walk that starts now carries, and the refusal of its steps for that (0: none)
   pub ticket : State → Ticket
   pub bar : State → Ticket → ℕ
@@ -100,11 +100,11 @@ module _ {K W : Type 0} (M : Machine K W) where
   handed x q w (steps b ∷ es) = pairFrom (M .answers x q w b) ++ handed x q (movedBy w (M .answers x q w b)) es
   handed x q w (calls c ∷ es) = handed (M .after x c) q w es
 
-  -- The key is in the map before, between and after all events of the run, and no call counts as removing every key.
+  -- The key is in the map before, between and after all events of the run, and no call counts as removing it on its way.
   unfoldable pub stays : K → M .State → Run → Bool
   stays k x [] = has x k
   stays k x (steps b ∷ es) = has x k && stays k x es
-  stays k x (calls c ∷ es) = has x k && (not (M .wipes x c) && stays k (M .after x c) es)
+  stays k x (calls c ∷ es) = has x k && (not (M .drops x c k) && stays k (M .after x c) es)
 
   -- The table's map is known after each call of the run.
   unfoldable pub lasts : M .State → Run → Bool
@@ -125,7 +125,7 @@ module _ {K W : Type 0} (M : Machine K W) where
     -- a key handed out twice, with the events fs in between, was removed in between
     pub apart : (es fs : Run) (b c : M .Step) (k : K) (v u : W) (y n z i : ℕ) → lasts x es ≡ true → lasts (stateAfter x es) fs ≡ true → M .answers (stateAfter x es) (M .ticket x) (walkAfter x (M .ticket x) 0 es) b ≡ ok (pair k v y n) → M .answers (stateAfter (stateAfter x es) fs) (M .ticket x) (walkAfter (stateAfter x es) (M .ticket x) y fs) c ≡ ok (pair k u z i) → stays k (stateAfter x es) fs ≡ false
 
--- What a machine owes: in fine states slots stand behind the map; none is damaged and each live key stands once; a call after which the map is known keeps states fine, and, where it does not wipe, moves no key that is still there; a step answers by its slots.
+-- What a machine owes: in fine states slots stand behind the map; none is damaged and each live key stands once; a call after which the map is known keeps states fine, and moves no key that is still there and that it did not remove on its way; a step answers by its slots.
 pub record LawfulMachine {K W : Type 0} (M : Machine K W) : Type 1 where
   pub SoundState : M .State → Type 0
   pub table : M .State → Table K W
@@ -134,5 +134,5 @@ pub record LawfulMachine {K W : Type 0} (M : Machine K W) : Type 1 where
   pub whole : (x : M .State) → SoundState x → (i : ℕ) → i < M .size → table x i ≡ damaged → ⊥
   pub once : (x : M .State) → SoundState x → (i j : ℕ) (k : K) (v w : W) → i < M .size → j < M .size → table x i ≡ live k v → table x j ≡ live k w → i ≡ j
   pub after-sound : (x : M .State) (c : M .Call) → SoundState x → isSome (M .map (M .after x c)) ≡ true → SoundState (M .after x c)
-  pub stands : (x : M .State) (c : M .Call) → SoundState x → isSome (M .map (M .after x c)) ≡ true → M .wipes x c ≡ false → (i : ℕ) (k : K) (v w : W) → i < M .size → table x i ≡ live k v → lookIn (M .map (M .after x c)) k ≡ some w → table (M .after x c) i ≡ live k w
+  pub stands : (x : M .State) (c : M .Call) → SoundState x → isSome (M .map (M .after x c)) ≡ true → (i : ℕ) (k : K) (v w : W) → M .drops x c k ≡ false → i < M .size → table x i ≡ live k v → lookIn (M .map (M .after x c)) k ≡ some w → table (M .after x c) i ≡ live k w
   pub paces : (x : M .State) → SoundState x → (q : M .Ticket) (w : ℕ) (b : M .Step) → M .answers x q w b ≡ step (M .size) (table x) (M .bar x q) w (M .budget b)

@@ -32,6 +32,11 @@ pub record Lawful {K W : Type 0} (M : Store K W) : Type 1 where
   pub free-wrote : (m : M .State) (i : ℕ) (k : K) (w : W) → M .sized m ≡ true → M .good m → i < M .size m → M .slots m i ≡ live k w → Wrote M (M .good) m (M .free m i) (put (M .slots m) i freed)
   -- wipe gives every slot mark 0
   pub wipe-wrote : (m : M .State) → M .sized m ≡ true → Wrote M (M .good) m (M .wipe m) made
+  -- on any memory no write changes the number of slots
+  pub over-size : (m : M .State) (i : ℕ) (v : W) → M .size (M .over m i v) ≡ M .size m
+  pub fill-size : (m : M .State) (i : ℕ) (k : K) (v : W) → M .size (M .fill m i k v) ≡ M .size m
+  pub free-size : (m : M .State) (i : ℕ) → M .size (M .free m i) ≡ M .size m
+  pub wipe-size : (m : M .State) → M .size (M .wipe m) ≡ M .size m
 
 -- What a store owes on any memory without damage: a value written over, and a key put into a free slot where its bytes fit, change the slots as they should and do no damage.
 pub record Steady {K W : Type 0} (M : Store K W) : Type 0 where

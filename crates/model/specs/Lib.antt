@@ -11,6 +11,7 @@ pub mod Lawful
 pub mod Demand2
 pub mod Demand3
 pub mod Tables
+pub mod Runs
 pub mod Iterated
 pub mod Plain
 pub mod Demand1

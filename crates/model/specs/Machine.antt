@@ -1,22 +1,22 @@
--- The published calls as one alphabet: what each answers and leaves, over tables by their numbers.
+-- The calls of the theory as one alphabet: what each answers and leaves, over tables by their numbers.
 use Prim.Native.Nat.{ℕ}
 use mathlib.Core.Bool.{Bool, cond}
 use lib.Dec.{eqb}
 use Rattle.model.specs.Store.{Store}
-use Rattle.model.specs.Calls.{Or, no, ok, need, Seen, Spot, Handle, get, entry, after-insert, remove, after-remove, capacity, after-make, length, reserve, copy, after-copy, union, after-union, occupied-get, after-set, occupied-remove, after-drop, vacant-insert, after-fill, or-insert, after-or-insert, insert-entry, after-insert-entry}
+use Rattle.model.specs.Calls.{Or, no, ok, need, Seen, Spot, Handle, get, entry, after-insert, put-spot, after-put, remove, after-remove, capacity, after-make, length, reserve, copy, after-copy, union, after-union, occupied-get, after-set, occupied-remove, after-drop, vacant-insert, after-fill, or-insert, after-or-insert, insert-entry, after-insert-entry}
 use Rattle.model.specs.Walk.{StepAnswer, step}
 
--- The published calls on one table, but walk steps: one constructor for each.
+-- The calls on one table, but walk steps: one constructor for each published call of the base, and the put, of which later calls are made.
 pub data Own (K W : Type 0) : Type 0 where
   makes clears capacities lens empties : Own K W
   reserves : ℕ → Own K W
   gets contains-keys removes entries : K → Own K W
-  inserts : K → W → Own K W
+  inserts puts : K → W → Own K W
   occupied-gets occupied-removes : ℕ → K → Own K W
   occupied-sets vacant-inserts : ℕ → K → W → Own K W
   or-inserts insert-entries : Handle → K → W → Own K W
 
--- All published calls: those, copy from and union with another table by its number, and a step of a walk at a slot with a budget.
+-- All calls: those, copy from and union with another table by its number, and a step of a walk at a slot with a budget.
 pub data Call (K W : Type 0) : Type 0 where
   own : Own K W → Call K W
   copies unions : ℕ → Call K W
@@ -60,6 +60,7 @@ module _ {K W : Type 0} (M : Store K W) where
   tells m (removes k) = report seen (remove M m k)
   tells m (entries k) = report spot (entry M m k)
   tells m (inserts k v) = report spot (entry M m k)
+  tells m (puts k v) = report spot (put-spot M m k)
   tells m (occupied-gets s k) = report value (occupied-get M m s k)
   tells m (occupied-removes s k) = report value (occupied-remove M m s k)
   tells m (occupied-sets s k v) = report value (occupied-get M m s k)
@@ -80,6 +81,7 @@ module _ {K W : Type 0} (M : Store K W) where
   leaves m (removes k) = after-remove M m k
   leaves m (entries k) = m
   leaves m (inserts k v) = after-insert M m k v
+  leaves m (puts k v) = after-put M m k v
   leaves m (occupied-gets s k) = m
   leaves m (occupied-removes s k) = after-drop M m s k
   leaves m (occupied-sets s k v) = after-set M m s k v

@@ -1,14 +1,14 @@
 -- Which lent places the rule of an accepted call names, and what it means that a call changes no other.
 use Prim.Native.Nat.{ℕ, _+_, _≤_, _<_}
-use mathlib.Core.Bool.{Bool, true, false, cond}
+use mathlib.Core.Bool.{Bool, true, false, cond, _&&_}
 use mathlib.Core.List.{List, [], _∷_}
 use mathlib.Core.Path.{_≡_}
-use lib.Dec.{ltb}
+use lib.Dec.{ltb, eqb}
 use Rattle.model.specs.Slots.{live, pairs}
 use Rattle.model.specs.Path.{Find, hit, miss, damage}
 use Rattle.model.specs.Store.{Store, path, slotAt, used}
-use Rattle.model.specs.Calls.{Or, no, ok, Seen, found, absent, Spot, occupied, vacant, Handle, on-occupied, on-vacant, entry, remove, capacity, copy, rule, union, occupied-get, occupied-remove, vacancy}
-use Rattle.model.specs.Machine.{Own, makes, clears, capacities, lens, empties, reserves, gets, contains-keys, removes, entries, inserts, occupied-gets, occupied-removes, occupied-sets, vacant-inserts, or-inserts, insert-entries, Call, own, copies, unions, steps, World, left}
+use Rattle.model.specs.Calls.{Or, no, ok, Seen, found, absent, Spot, occupied, vacant, Handle, on-occupied, on-vacant, entry, put-spot, remove, capacity, copy, rule, union, occupied-get, occupied-remove, vacancy}
+use Rattle.model.specs.Machine.{Own, makes, clears, capacities, lens, empties, reserves, gets, contains-keys, removes, entries, inserts, puts, occupied-gets, occupied-removes, occupied-sets, vacant-inserts, or-inserts, insert-entries, Call, own, copies, unions, steps, World, left, turned}
 
 -- The lent places of a store, what stands in each, and which of them each write names.
 pub record Places {K W : Type 0} (M : Store K W) : Type 1 where
@@ -64,6 +64,7 @@ module _ {K W : Type 0} (M : Store K W) (P : Places M) (p : P .Place) where
   own-names m (removes k) = remove-names m (remove M m k)
   own-names m (entries k) = false
   own-names m (inserts k v) = insert-names m k (entry M m k)
+  own-names m (puts k v) = insert-names m k (put-spot M m k)
   own-names m (occupied-gets s k) = false
   own-names m (occupied-removes s k) = accepted (occupied-remove M m s k) (P .free-names m s p)
   own-names m (occupied-sets s k v) = accepted (occupied-get M m s k) (P .over-names s p)
@@ -88,6 +89,11 @@ module _ {K W : Type 0} (M : Store K W) (P : Places M) (p : P .Place) where
   names w x (copies y) = accepted (copy M (w x) (w y)) true
   names w x (unions y) = accepted (union M (w x) (w y)) (all-names (w x) (pairs (M .slots (w y)) (M .size (w y))))
   names w x (steps a b) = false
+
+  -- The places of the table y that some call of a list names in its turn.
+  unfoldable pub run-names : ℕ → World M → List (ℕ × Call K W) → Bool
+  run-names y w [] = false
+  run-names y w (c ∷ cs) = cond (eqb y (c .0) && names w (c .0) (c .1)) true (run-names y (turned M w (c .0) (c .1)) cs)
 
 -- A call changes no lent place that its rule does not name.
 abbrev pub OnlyNamed : {K W : Type 0} (M : Store K W) → Places M → Type 0

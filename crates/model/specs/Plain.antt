@@ -36,6 +36,7 @@ plain {K} {W} E weight = record {
   sized = λ m. ltb 0 (m .size);
   asked = λ k. 0;
   kept = λ k. 0;
+  carried = λ m. 0;
   damagedFully = λ m. ltb (m .bytes) (total weight (m .slots) (m .size));
   good = λ m. total weight (m .slots) (m .size) ≤ m .bytes;
   over = λ m i v. reslotted m (put (m .slots) i (revalued (m .slots i) v));

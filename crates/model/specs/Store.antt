@@ -25,6 +25,8 @@ pub record Store (K W : Type 0) : Type 1 where
   -- the refusal of a key before any slot is looked at, 0 where there is none: for a key asked for, and for a key to be stored
   pub asked : K → ℕ
   pub kept : K → ℕ
+  -- the refusal of a table whose keys are carried into another, for one of them, 0 where there is none
+  pub carried : State → ℕ
   -- the damage that storing calls find by examining every slot
   pub damagedFully : State → Bool
   -- what soundness asks of the memory beyond its slots

@@ -13,15 +13,16 @@ use Rattle.model.specs.Calls.{ok}
 use Rattle.model.specs.Calls
 use Rattle.model.specs.Machine.{fine, number, truth, seen, spot, stepped, tells, leaves, answer, left, stepping, World}
 use Rattle.model.specs.Lawful.{Lawful}
-use Rattle.model.specs.Demand1.{Least, rows, refusal, numberIn}
+use Rattle.model.specs.Demand1.{First, Least, refusal, numberIn}
 use Rattle.model.specs.Demand2.{keyOf, Book}
 use Rattle.model.specs.Demand3.{has, walkAfter, times, handed, Walked}
 use Rattle.model.specs.Iterated.{onlySteps, Iterated}
 use Rattle.model.specs.Finite.{Finite, isSome}
 use Rattle.model.specs.Store.{pathLength}
-use Rattle.model.specs.Places.{names}
+use Rattle.model.specs.Places.{run-names}
 use Rattle.model.proofs.Cases.{clash}
 use Rattle.model.proofs.Iterated.{walk-once}
+use Rattle.model.proofs.Least.{rising}
 use Rattle.model.proofs.Numbered.{step-numbered}
 use Rattle.answers.specs.Cases.{DONE, ROOM, PRESENT, ABSENT}
 use Rattle.answers.specs.Said.{doneSaid, countSaid, emptySaid, roomSaid, containedSaid, droppedSaid, memberSaid, addedSaid, stepSaid, keyHanded}
@@ -30,9 +31,10 @@ use Rattle.answers.specs.declared.Numbers.{Numbers}
 use Rattle.kinds.specs.Owed.{refusing, only, lookingUp}
 use Rattle.kinds.proofs.Owed.{get-owed, remove-owed, entry-owed, length-owed, capacity-owed, reserve-owed, copy-owed, step-owed, get-counted, remove-counted, entry-counted, zeros, looked-inserted, looked-removed, paces-once}
 use Rattle.kinds.specs.Columns.{nothing}
-use Rattle.kinds.specs.Published.{Linked, ZerosElsewhere, PathCounted, asked, given, Right, ToldInStep, unknown, noted, afterCalls, Step, walkOf}
+use Rattle.kinds.specs.Published.{Linked, ZerosElsewhere, PathCounted, askedBy, givenTo, Right, ToldInStep, unknown, noted, afterCalls, Step, walkOf}
 use Rattle.kinds.specs.Told.{told}
 use Rattle.kinds.proofs.Columns.{nothing-lawful}
+use Rattle.kinds.proofs.Simple.{simply-linked, alone-accepted}
 use Rattle.kinds.proofs.Published.{reported, lowest-told, refused-same, named-only, lent-zeros, inserted-known, removed-known, told-in-step, told-owed, told-rest, walk-told, iterated-told, heard-step}
 use Rattle.kinds.specs.Calls.{makeOf, droppedOf, capacityOf, lenOf, isEmptyOf, reserveOf, containsOf, copyOf}
 use Rattle.kinds.specs.Moved.{movedOn}
@@ -42,16 +44,16 @@ use Rattle.int_slots.proofs.Places.{int-steady, int-apart}
 use Rattle.int_slots.specs.Sets.{sets}
 use Rattle.int_slots.specs.Kinds.{setInsertOf, setGetOf}
 use Rattle.int_slots.specs.Steps.{setStepOf}
-use Rattle.promises.specs.IntSet.{Call, make, clear, capacity, len, is-empty, reserve, get, contains, insert, remove, copy, step, told-by, meant, published, keyTold, Owes, heard, lent-by, owed}
-use Rattle.promises.specs.SetAlphabet.{setMeant}
+use Rattle.promises.specs.IntSet.{Call, make, clear, capacity, len, is-empty, reserve, get, contains, insert, remove, copy, step, told-by, one, simple, published, keyTold, Owes, heard, lent-by, owed}
+use Rattle.promises.specs.SetAlphabet.{setOne}
 
 -- Integer sets are a lawful store.
 pub sets-lawful : Lawful sets
 sets-lawful = int-lawful nothing nothing-lawful
 
 -- Each published call tells the refusal of the theory's call.
-number-told : (w : World sets) (x : ℕ) (c : Call) → told-by w x c .numbers .refusal ≡ refusal (answer sets w x (meant w x c))
-unfolding told-by meant setMeant answer tells left leaves makeOf capacityOf lenOf isEmptyOf reserveOf setGetOf containsOf setInsertOf droppedOf copyOf setStepOf refusal
+number-told : (w : World sets) (x : ℕ) (c : Call) → told-by w x c .numbers .refusal ≡ refusal (answer sets w x (one w x c))
+unfolding told-by one setOne answer tells left leaves makeOf capacityOf lenOf isEmptyOf reserveOf setGetOf containsOf setInsertOf droppedOf copyOf setStepOf refusal
 number-told w x make = doneSaid-refusal _ ∙ sym (reported (λ n. fine) (λ a. refl) _)
 number-told w x clear = doneSaid-refusal _ ∙ sym (reported (λ n. fine) (λ a. refl) _)
 number-told w x capacity = countSaid-refusal _ ∙ sym (reported number (λ a. refl) _)
@@ -66,8 +68,8 @@ number-told w x (copy y) = doneSaid-refusal _ ∙ sym (reported (λ u. fine) (λ
 number-told w x (step at budget) = stepSaid-refusal keyHanded (λ k v p e. refl) at _ ∙ sym (reported stepped (λ a. refl) _)
 
 -- And leaves its memory.
-memory-told : (w : World sets) (x : ℕ) (c : Call) → told-by w x c .memory ≡ left sets w x (meant w x c)
-unfolding told-by meant setMeant answer tells left leaves makeOf capacityOf lenOf isEmptyOf reserveOf setGetOf containsOf setInsertOf droppedOf copyOf setStepOf
+memory-told : (w : World sets) (x : ℕ) (c : Call) → told-by w x c .memory ≡ left sets w x (one w x c)
+unfolding told-by one setOne answer tells left leaves makeOf capacityOf lenOf isEmptyOf reserveOf setGetOf containsOf setInsertOf droppedOf copyOf setStepOf
 memory-told w x make = refl
 memory-told w x clear = refl
 memory-told w x capacity = refl
@@ -91,9 +93,9 @@ steps-lent : (w : World sets) (x a b : ℕ) → lent-by w x a b ≡ told (told-b
 unfolding told-by lent-by movedOn
 steps-lent w x a b = refl
 
--- The published calls are the theory's.
+-- The published calls carry out calls of the theory.
 pub sets-linked : Linked sets published
-sets-linked = record { number = number-told; memory = memory-told; hears = steps-heard; lends = steps-lent }
+sets-linked = simply-linked sets (sets-lawful .homes) simple (record { number = number-told; memory = memory-told; hears = steps-heard; lends = steps-lent })
 
 -- Where the set of a call's table is known, the call tells what it owes.
 owes-told : (s : Book sets) → Right sets published s → (x : ℕ) (c : Call) (f : Finite ℕ (Unit {0})) → s .maps x ≡ some f → Owes s x f c (told-by (s .world) x c .numbers)
@@ -126,21 +128,25 @@ owes-once s x f (remove k) n o p q = p ∙ sym q
 owes-once s x f (copy y) n o p q = p ∙ sym q
 owes-once s x f (step a b) n o p q = paces-once sets (s .world x) f keyTold a b n o p q
 
--- Demand 1: on any memory each call tells the lowest refusal that applies by the scope's table, and 0 where none does.
-pub demand-1 : (w : World sets) (x : ℕ) (c : Call) → Least (rows sets w x (meant w x c)) (told-by w x c .numbers .refusal)
-demand-1 w x c = lowest-told sets published sets-linked (λ k. inl refl) (λ k. inl refl) (sets-lawful .homes) w x c
+-- Demand 1: on any memory each call tells the first of its own rows that applies by the scope's table, and 0 where none does.
+pub demand-1 : (w : World sets) (x : ℕ) (c : Call) → First (published .rows w x c) (told-by w x c .numbers .refusal)
+demand-1 w x c = sets-linked .first w x c
 
--- A refused call leaves every lent place as it was.
-pub demand-1-still : (w : World sets) (x : ℕ) (c : Call) → (told-by w x c .numbers .refusal ≡ 0 → ⊥) → told-by w x c .memory ≡ w x
-demand-1-still w x c h = refused-same sets published sets-linked w x c h
+-- Which is the lowest number that applies.
+pub demand-1-lowest : (w : World sets) (x : ℕ) (c : Call) → Least (published .rows w x c) (told-by w x c .numbers .refusal)
+demand-1-lowest w x c = lowest-told sets published sets-linked w x c (rising sets (λ k. inl refl) (λ k. inl refl) (λ m. refl) w x (one w x c))
 
--- An accepted call changes no lent place that its rule does not name.
-pub demand-1-named : (w : World sets) (x : ℕ) (c : Call) (p : Place) → names sets (places nothing) p w x (meant w x c) ≡ false → wordIn nothing (told-by w x c .memory) p ≡ wordIn nothing (w x) p
-demand-1-named w x c p e = named-only sets published sets-linked (int-steady nothing nothing-lawful) (places nothing) (int-apart nothing nothing-lawful) w x c p e
+-- A refused call leaves every lent place of every table as it was.
+pub demand-1-still : (w : World sets) (x : ℕ) (c : Call) → (told-by w x c .numbers .refusal ≡ 0 → ⊥) → published .after w x c ≡ w
+demand-1-still w x c h = refused-same sets published sets-linked w x c refl h
+
+-- A call changes no lent place, of any table, that no call of the theory which it carries out names.
+pub demand-1-named : (w : World sets) (x : ℕ) (c : Call) (y : ℕ) (p : Place) → run-names sets (places nothing) p y w (published .meant w x c) ≡ false → wordIn nothing (published .after w x c y) p ≡ wordIn nothing (w y) p
+demand-1-named w x c y p e = named-only sets published sets-linked (int-steady nothing nothing-lawful) (places nothing) (int-apart nothing nothing-lawful) w x c y p e
 
 -- A refused call tells its number, zeros elsewhere, and the walk as it came.
-refused-zeros : (w : World sets) (x : ℕ) (c : Call) → (told-by w x c .numbers .refusal ≡ 0 → ⊥) → told-by w x c .numbers ≡ refusing (told-by w x c .numbers .refusal) (given (meant w x c))
-unfolding told-by meant setMeant given makeOf capacityOf lenOf isEmptyOf reserveOf containsOf droppedOf copyOf setInsertOf setGetOf setStepOf doneSaid countSaid emptySaid roomSaid containedSaid droppedSaid memberSaid addedSaid stepSaid numberIn
+refused-zeros : (w : World sets) (x : ℕ) (c : Call) → (told-by w x c .numbers .refusal ≡ 0 → ⊥) → told-by w x c .numbers ≡ refusing (told-by w x c .numbers .refusal) (published .given w x c)
+unfolding told-by one setOne givenTo makeOf capacityOf lenOf isEmptyOf reserveOf containsOf droppedOf copyOf setInsertOf setGetOf setStepOf doneSaid countSaid emptySaid roomSaid containedSaid droppedSaid memberSaid addedSaid stepSaid numberIn
 refused-zeros w x make h = zeros doneSaid 0 (λ n. refl) (λ y. refl) (Calls.capacity sets (w x)) h
 refused-zeros w x clear h = zeros doneSaid 0 (λ n. refl) (λ y. refl) (Calls.capacity sets (w x)) h
 refused-zeros w x capacity h = zeros countSaid 0 (λ n. refl) (λ y. refl) (Calls.capacity sets (w x)) h
@@ -156,7 +162,7 @@ refused-zeros w x (step a b) h = zeros (stepSaid keyHanded a) a (λ n. refl) (λ
 
 -- A refusal tells its number, zeros elsewhere, and the walk as it came, on any memory, lent walks included.
 pub demand-1-zeros : ZerosElsewhere sets published
-unfolding meant setMeant given
+unfolding one setOne givenTo
 demand-1-zeros = record {
   calls = refused-zeros;
   lent-steps = λ w x a b h. lent-zeros sets published sets-linked w x a b (refused-zeros w x (step a b) (λ e. h (ap (λ t. t .numbers .refusal) (steps-lent w x a b) ∙ e)));
@@ -164,7 +170,7 @@ demand-1-zeros = record {
 
 -- On any memory an accepted lookup tells its path's own examined number.
 pub demand-2-examined : PathCounted sets published
-unfolding told-by meant setMeant asked keyOf containsOf droppedOf setInsertOf setGetOf setStepOf containedSaid droppedSaid memberSaid addedSaid
+unfolding told-by one setOne askedBy keyOf containsOf droppedOf setInsertOf setGetOf setStepOf containedSaid droppedSaid memberSaid addedSaid
 demand-2-examined w x make k q e = clash cc
 demand-2-examined w x clear k q e = clash cc
 demand-2-examined w x capacity k q e = clash cc
@@ -196,18 +202,18 @@ demand-3-once cs w x q k bs h e = walk-once (walkOf sets published cs w x) (afte
 
 -- What demand 2 comes to, by told numbers alone: on a known table a key that was inserted is there, one that was removed is absent.
 pub told-after-insert : (s : Book sets) → Right sets published s → (x : ℕ) (f : Finite ℕ (Unit {0})) → s .maps x ≡ some f → (k : ℕ) → told-by (s .world) x (insert k) .numbers .refusal ≡ 0 → (told-by (noted sets published s x (insert k) .world) x (contains k) .numbers .case ≡ PRESENT)
-unfolding meant setMeant
+unfolding one setOne
 told-after-insert s h x f e k r =
     let g = noted sets published s x (insert k) in
     let run = told-in-step sets published sets-linked sets-lawful owed owes-told ((x, (insert k)) ∷ (x, contains k) ∷ []) s h in
-    let o = told-owed sets published sets-linked owed x (contains k) [] g (told-rest sets published sets-linked owed x (insert k) ((x, contains k) ∷ []) s run) _ (inserted-known sets published sets-linked s x (insert k) k tt f refl e r) in
+    let o = told-owed sets published sets-linked owed x (contains k) [] g (told-rest sets published sets-linked owed x (insert k) ((x, contains k) ∷ []) s run) _ (inserted-known sets published sets-linked s x (insert k) k tt f (alone-accepted x (told-by (s .world) x (insert k) .numbers) (one (s .world) x (insert k)) r) e) in
     let q = o ∙ looked-inserted sets (g .world x) f k (λ v i e. lookingUp PRESENT 0 0 e) (λ e. lookingUp ABSENT 0 0 e) tt refl in
     ap (λ n. n .case) q
 
 pub told-after-remove : (s : Book sets) → Right sets published s → (x : ℕ) (f : Finite ℕ (Unit {0})) → s .maps x ≡ some f → (k : ℕ) → told-by (s .world) x (remove k) .numbers .refusal ≡ 0 → told-by (noted sets published s x (remove k) .world) x (contains k) .numbers .case ≡ ABSENT
-unfolding meant setMeant
+unfolding one setOne
 told-after-remove s h x f e k r =
     let g = noted sets published s x (remove k) in
     let run = told-in-step sets published sets-linked sets-lawful owed owes-told ((x, remove k) ∷ (x, contains k) ∷ []) s h in
-    let o = told-owed sets published sets-linked owed x (contains k) [] g (told-rest sets published sets-linked owed x (remove k) ((x, contains k) ∷ []) s run) _ (removed-known sets published sets-linked s x (remove k) k f refl e r) in
+    let o = told-owed sets published sets-linked owed x (contains k) [] g (told-rest sets published sets-linked owed x (remove k) ((x, contains k) ∷ []) s run) _ (removed-known sets published sets-linked s x (remove k) k f (alone-accepted x (told-by (s .world) x (remove k) .numbers) (one (s .world) x (remove k)) r) e) in
     ap (λ n. n .case) (o ∙ looked-removed sets (g .world x) f k (λ v i e. lookingUp PRESENT 0 0 e) (λ e. lookingUp ABSENT 0 0 e) refl)

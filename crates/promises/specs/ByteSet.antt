@@ -1,4 +1,4 @@
--- The published calls of the byte set: what each tells and leaves, and the call of the theory that it is.
+-- The published calls of the byte set: what each tells and leaves, and the one call of the theory that it is.
 use Prim.Native.Nat.{ℕ, _-_}
 use mathlib.Core.Bool.{cond}
 use mathlib.Core.Path.{_≡_}
@@ -18,13 +18,13 @@ use Rattle.answers.specs.declared.Numbers.{Numbers}
 use Rattle.kinds.specs.Columns.{nothing}
 use Rattle.kinds.specs.Told.{ToldAndLeft, told}
 use Rattle.kinds.specs.Calls.{makeOf, capacityOf, lenOf, isEmptyOf, reserveOf, containsOf, copyOf, droppedOf}
-use Rattle.kinds.specs.Published.{Published, Duty, heardAs}
+use Rattle.kinds.specs.Published.{Published, Simple, simply, Duty, heardAs}
 use Rattle.kinds.specs.Owed.{refusing, only, counting, lookingUp, copying, looking, placing, OwesStep, spanning, handing}
 use Rattle.kinds.specs.Moved.{movedOn}
 use Rattle.byte_slots.specs.Memory.{ByteMemory, part, offsetAt, lengthAt}
 use Rattle.byte_slots.specs.Kinds.{sets, setInsertOf, setGetOf, setStepOf}
 pub use Rattle.promises.specs.SetAlphabet.{make, clear, capacity, len, is-empty, reserve, copy, get, contains, insert, remove, step}
-use Rattle.promises.specs.SetAlphabet.{SetCall, setMeant}
+use Rattle.promises.specs.SetAlphabet.{SetCall, setOne}
 
 -- A set's calls, over this kind's keys.
 abbrev pub Call : Type 0
@@ -45,9 +45,9 @@ told-by w x (insert k) = setInsertOf (w x) k
 told-by w x (remove k) = droppedOf sets (w x) k
 told-by w x (step at budget) = told (setStepOf (w x) at budget) (w x)
 
--- The call of the theory that it is.
-unfoldable pub meant : World sets → ℕ → Call → model.Call (List ℕ) (Unit {0})
-meant w x c = setMeant c
+-- The one call of the theory that it is.
+unfoldable pub one : World sets → ℕ → Call → model.Call (List ℕ) (Unit {0})
+one w x c = setOne c
 
 -- The step of a lent walk: what it tells, and the walk that it leaves in its place.
 unfoldable pub lent-by : World sets → ℕ → ℕ → ℕ → ToldAndLeft ℕ
@@ -57,9 +57,13 @@ lent-by w x at budget = movedOn (setStepOf (w x) at budget)
 abbrev pub heard : ByteMemory nothing → Numbers → Or (StepAnswer (List ℕ) (Unit {0}))
 heard m n = heardAs (λ n. part (m .spans .arena) (n .offset) (n .length)) (λ n. tt) n
 
+-- The calls of which each is one call of the theory: all of them.
+abbrev pub simple : Simple sets
+simple = record { Call = Call; told-by = told-by; one = one; step = step; lent-by = lent-by; heard = heard }
+
 -- The byte set's published calls.
 abbrev pub published : Published sets
-published = record { Call = Call; told-by = told-by; meant = meant; step = step; lent-by = lent-by; heard = heard }
+published = simply simple
 
 -- A key that a step hands out, by its slot's part of the arena.
 abbrev pub keyTold : ByteMemory nothing → List ℕ → Unit {0} → ℕ → ℕ → ℕ → Numbers
@@ -89,4 +93,4 @@ Stands w x c t =
 
 -- What a call owes where the set of its table is known.
 abbrev pub owed : Duty sets published
-owed s x f c t = Owes s x f c (t .numbers) × Stands (s .world) x c t
+owed s x f c t = Owes s x f c (t .numbers) × Stands (s .world) x c (told (t .numbers) (t .memory x))

@@ -1,4 +1,4 @@
--- The published calls of the integer map: what each tells and leaves, and the call of the theory that it is.
+-- The published calls of the integer map: what each tells and leaves, and the one call of the theory that it is.
 use Prim.Native.Nat.{ℕ, _-_}
 use mathlib.Core.Bool.{cond}
 use mathlib.Core.Option.{some}
@@ -9,7 +9,7 @@ use Rattle.model.specs.Machine as model
 use Rattle.model.specs.Machine.{World}
 use Rattle.kinds.specs.Columns.{values}
 use Rattle.kinds.specs.Told.{ToldAndLeft, told}
-use Rattle.kinds.specs.Published.{Published, Duty, heardAs}
+use Rattle.kinds.specs.Published.{Published, Simple, simply, Duty, heardAs}
 use Rattle.kinds.specs.Owed.{refusing, only, counting, lookingUp, copying, handling, admitting, looking, placing, holding, opening, OwesStep, handing, joining, keeping, replacing}
 use Rattle.model.specs.Finite.{Finite}
 use Rattle.model.specs.Finite
@@ -27,7 +27,7 @@ use Rattle.int_slots.specs.Steps.{stepOf}
 use Rattle.int_map_entry.specs.declared.Entered.{Entered}
 use Rattle.int_map_entry.specs.Calls.{handleOf}
 pub use Rattle.promises.specs.MapAlphabet.{make, clear, capacity, len, is-empty, reserve, copy, union-prefer-right, get, contains-key, remove, entry, insert, occupied-get, occupied-remove, occupied-remove-entry, step, occupied-set, vacant-insert, or-insert, insert-entry}
-use Rattle.promises.specs.MapAlphabet.{MapCall, mapMeant}
+use Rattle.promises.specs.MapAlphabet.{MapCall, mapOne}
 
 -- A map's calls, over this kind's keys and entry answers.
 abbrev pub Call : Type 0
@@ -57,9 +57,9 @@ told-by w x (vacant-insert s k v) = vacantInsertOf maps (w x) s k v
 told-by w x (or-insert e k v) = orInsertOf maps (w x) (handleOf (length (w x .marks)) e) k v
 told-by w x (insert-entry e k v) = insertEntryOf maps (w x) (handleOf (length (w x .marks)) e) k v
 
--- The call of the theory that it is.
-unfoldable pub meant : World maps → ℕ → Call → model.Call ℕ ℕ
-meant w x c = mapMeant (handleOf (length (w x .marks))) c
+-- The one call of the theory that it is.
+unfoldable pub one : World maps → ℕ → Call → model.Call ℕ ℕ
+one w x c = mapOne (handleOf (length (w x .marks))) c
 
 -- The step of a lent walk: what it tells, and the walk that it leaves in its place.
 unfoldable pub lent-by : World maps → ℕ → ℕ → ℕ → ToldAndLeft ℕ
@@ -69,9 +69,13 @@ lent-by w x at budget = movedOn (stepOf (w x) at budget)
 abbrev pub heard : IntMemory values → Numbers → Or (StepAnswer ℕ ℕ)
 heard m n = heardAs (λ n. n .key) (λ n. n .value) n
 
+-- The calls of which each is one call of the theory: all of them.
+abbrev pub simple : Simple maps
+simple = record { Call = Call; told-by = told-by; one = one; step = step; lent-by = lent-by; heard = heard }
+
 -- The integer map's published calls.
 abbrev pub published : Published maps
-published = record { Call = Call; told-by = told-by; meant = meant; step = step; lent-by = lent-by; heard = heard }
+published = simply simple
 
 -- A pair that a step hands out, its slot behind the walk: its key and its value.
 abbrev pub pairTold : ℕ → ℕ → ℕ → ℕ → ℕ → Numbers

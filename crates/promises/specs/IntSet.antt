@@ -1,4 +1,4 @@
--- The published calls of the integer set: what each tells and leaves, and the call of the theory that it is.
+-- The published calls of the integer set: what each tells and leaves, and the one call of the theory that it is.
 use Prim.Native.Nat.{ℕ, _-_}
 use mathlib.Core.Bool.{cond}
 use mathlib.Core.Path.{_≡_}
@@ -14,7 +14,7 @@ use Rattle.answers.specs.Cases.{DONE, COUNT, EMPTY, HOLDS, ROOM, FOUND, PRESENT
 use Rattle.answers.specs.declared.Numbers.{Numbers}
 use Rattle.kinds.specs.Columns.{nothing}
 use Rattle.kinds.specs.Told.{ToldAndLeft, told}
-use Rattle.kinds.specs.Published.{Published, Duty, heardAs}
+use Rattle.kinds.specs.Published.{Published, Simple, simply, Duty, heardAs}
 use Rattle.kinds.specs.Owed.{refusing, only, counting, lookingUp, copying, looking, placing, OwesStep, handing}
 use Rattle.kinds.specs.Calls.{makeOf, droppedOf, capacityOf, lenOf, isEmptyOf, reserveOf, containsOf, copyOf}
 use Rattle.kinds.specs.Moved.{movedOn}
@@ -23,7 +23,7 @@ use Rattle.int_slots.specs.Sets.{sets}
 use Rattle.int_slots.specs.Kinds.{setInsertOf, setGetOf}
 use Rattle.int_slots.specs.Steps.{setStepOf}
 pub use Rattle.promises.specs.SetAlphabet.{make, clear, capacity, len, is-empty, reserve, copy, get, contains, insert, remove, step}
-use Rattle.promises.specs.SetAlphabet.{SetCall, setMeant}
+use Rattle.promises.specs.SetAlphabet.{SetCall, setOne}
 
 -- A set's calls, over this kind's keys.
 abbrev pub Call : Type 0
@@ -44,9 +44,9 @@ told-by w x (remove k) = droppedOf sets (w x) k
 told-by w x (copy y) = copyOf sets (w x) (w y)
 told-by w x (step at budget) = told (setStepOf (w x) at budget) (w x)
 
--- The call of the theory that it is.
-unfoldable pub meant : World sets → ℕ → Call → model.Call ℕ (Unit {0})
-meant w x c = setMeant c
+-- The one call of the theory that it is.
+unfoldable pub one : World sets → ℕ → Call → model.Call ℕ (Unit {0})
+one w x c = setOne c
 
 -- The step of a lent walk: what it tells, and the walk that it leaves in its place.
 unfoldable pub lent-by : World sets → ℕ → ℕ → ℕ → ToldAndLeft ℕ
@@ -56,9 +56,13 @@ lent-by w x at budget = movedOn (setStepOf (w x) at budget)
 abbrev pub heard : IntMemory nothing → Numbers → Or (StepAnswer ℕ (Unit {0}))
 heard m n = heardAs (λ n. n .key) (λ n. tt) n
 
+-- The calls of which each is one call of the theory: all of them.
+abbrev pub simple : Simple sets
+simple = record { Call = Call; told-by = told-by; one = one; step = step; lent-by = lent-by; heard = heard }
+
 -- The integer set's published calls.
 abbrev pub published : Published sets
-published = record { Call = Call; told-by = told-by; meant = meant; step = step; lent-by = lent-by; heard = heard }
+published = simply simple
 
 -- A case with the key, its slot and the examined number.
 abbrev pub memberTold : ℕ → ℕ → ℕ → ℕ → Numbers

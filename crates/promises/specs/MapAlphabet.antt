@@ -1,4 +1,4 @@
--- The published calls of maps, over the kind of key, and the call of the theory that each is.
+-- The published calls of maps, over the kind of key, and the one call of the theory that each is.
 use Prim.Native.Nat.{ℕ}
 use Rattle.model.specs.Calls.{Handle}
 use Rattle.model.specs.Machine as model
@@ -14,26 +14,26 @@ pub data MapCall (K E : Type 0) : Type 0 where
   occupied-set vacant-insert : ℕ → K → ℕ → MapCall K E
   or-insert insert-entry : E → K → ℕ → MapCall K E
 
--- The call of the theory that it is, by the handle that an entry answer is.
-unfoldable pub mapMeant : {K E : Type 0} → (E → Handle) → MapCall K E → model.Call K ℕ
-mapMeant handle make = model.own model.makes
-mapMeant handle clear = model.own model.clears
-mapMeant handle capacity = model.own model.capacities
-mapMeant handle len = model.own model.lens
-mapMeant handle is-empty = model.own model.empties
-mapMeant handle (reserve n) = model.own (model.reserves n)
-mapMeant handle (get k) = model.own (model.gets k)
-mapMeant handle (contains-key k) = model.own (model.contains-keys k)
-mapMeant handle (remove k) = model.own (model.removes k)
-mapMeant handle (entry k) = model.own (model.entries k)
-mapMeant handle (copy y) = model.copies y
-mapMeant handle (union-prefer-right y) = model.unions y
-mapMeant handle (insert k v) = model.own (model.inserts k v)
-mapMeant handle (occupied-get s k) = model.own (model.occupied-gets s k)
-mapMeant handle (occupied-remove s k) = model.own (model.occupied-removes s k)
-mapMeant handle (occupied-remove-entry s k) = model.own (model.occupied-removes s k)
-mapMeant handle (step at budget) = model.steps at budget
-mapMeant handle (occupied-set s k v) = model.own (model.occupied-sets s k v)
-mapMeant handle (vacant-insert s k v) = model.own (model.vacant-inserts s k v)
-mapMeant handle (or-insert e k v) = model.own (model.or-inserts (handle e) k v)
-mapMeant handle (insert-entry e k v) = model.own (model.insert-entries (handle e) k v)
+-- The one call of the theory that it is, by the handle that an entry answer is.
+unfoldable pub mapOne : {K E : Type 0} → (E → Handle) → MapCall K E → model.Call K ℕ
+mapOne handle make = model.own model.makes
+mapOne handle clear = model.own model.clears
+mapOne handle capacity = model.own model.capacities
+mapOne handle len = model.own model.lens
+mapOne handle is-empty = model.own model.empties
+mapOne handle (reserve n) = model.own (model.reserves n)
+mapOne handle (get k) = model.own (model.gets k)
+mapOne handle (contains-key k) = model.own (model.contains-keys k)
+mapOne handle (remove k) = model.own (model.removes k)
+mapOne handle (entry k) = model.own (model.entries k)
+mapOne handle (copy y) = model.copies y
+mapOne handle (union-prefer-right y) = model.unions y
+mapOne handle (insert k v) = model.own (model.inserts k v)
+mapOne handle (occupied-get s k) = model.own (model.occupied-gets s k)
+mapOne handle (occupied-remove s k) = model.own (model.occupied-removes s k)
+mapOne handle (occupied-remove-entry s k) = model.own (model.occupied-removes s k)
+mapOne handle (step at budget) = model.steps at budget
+mapOne handle (occupied-set s k v) = model.own (model.occupied-sets s k v)
+mapOne handle (vacant-insert s k v) = model.own (model.vacant-inserts s k v)
+mapOne handle (or-insert e k v) = model.own (model.or-inserts (handle e) k v)
+mapOne handle (insert-entry e k v) = model.own (model.insert-entries (handle e) k v)
