@@ -19,16 +19,18 @@ use Rattle.kinds.specs.declared.Probed.the-variants as probed
 use Rattle.kinds.specs.Columns.{values, nothing}
 use Rattle.kinds.specs.Probing.{along}
 use Rattle.kinds.proofs.Bridge.{free-below}
+use Rattle.byte_slots.specs.declared.Kept.the-variants.{Fine}
 use Rattle.byte_slots.specs.declared.InsertPlan.{InsertPlan}
 use Rattle.byte_slots.specs.declared.InsertPlan.the-variants as insertPlan
 use Rattle.byte_slots.specs.declared.RemovePlan.{RemovePlan}
 use Rattle.byte_slots.specs.declared.RemovePlan.the-variants as removePlan
 use Rattle.byte_slots.specs.Keys.{byteKeys}
-use Rattle.byte_slots.specs.Memory.{Spans, ByteMemory, byteStore, bare, usedOf, fullDamage, fitting, askedOf, keptOf, liveAt}
-use Rattle.byte_slots.specs.Planning.{insertPlanBy, roomFor, planningInsert, planningMapInsert, removePlanBy, planningRemove, planningMapRemove}
+use Rattle.byte_slots.specs.Memory.{Spans, ByteMemory, byteStore, bare, usedOf, fullDamage, fitting, askedOf, keeping, liveAt}
+use Rattle.byte_slots.specs.Planning.{insertPlanBy, roomFor, planningKept, planningInsert, planningMapInsert, removePlanBy, planningRemove, planningMapRemove}
 use Rattle.byte_slots.specs.Probing.{pathOf}
 use Rattle.byte_slots.proofs.Sizes.{fitting-says}
 use Rattle.byte_slots.proofs.Bridge.{path-is}
+use Rattle.byte_slots.proofs.Plans.{kept-plan}
 use Rattle.byte_slots.proofs.Seeking.{long-only}
 use Rattle.byte_slots.proofs.Held.{live-says, unharmed-says}
 use Rattle.byte_arena.specs.Needs.{Aligned, Fillable, Freeable}
@@ -75,19 +77,19 @@ module _ (s : Spans) (k : List ℕ) where
       go (miss a b) p w = by-bool (ltb b (length (s .marks))) (λ t. clash (cc (rw t at w))) (λ t. clash (cc (rw t at w)))
       go damage p w = clash cc
 
-  kept-short : eqb (keptOf k) 0 ≡ true → length k ≤ keyLimit
-  unfolding keptOf askedOf
+  kept-short : keeping k ≡ Fine → length k ≤ keyLimit
   kept-short e = by-bool (keyFits (length k)) (λ f. leb-true (length k) keyLimit f) (λ f. clash (cc (rw f at e)))
 
   -- The plan of insert gives a slot to fill.
   pub plan-fillable : {r : InsertPlan} {i e u : ℕ} → r ≡ planningInsert s k → r ≡ insertPlan.Free i e u → Fillable s i u k
-  unfolding planningInsert roomFor
+  unfolding planningInsert planningKept roomFor
   plan-fillable {r} {i} {e} {u} p q = by-bool (fitting s)
-      (λ f. by-bool (eqb (keptOf k) 0)
-      (λ a. by-bool (fullDamage s)
-      (λ h. clash (cc (rw (f, a, h) at (sym p ∙ q))))
+      (λ f.
+      let (a, b) = kept-plan (keeping k) (rw f at (sym p ∙ q)) (λ x z. clash cc) in
+      by-bool (fullDamage s)
+      (λ h. clash (cc (rw h at b)))
       (λ h.
-      let (x, y, z) = insert-plan-free (usedOf s) (roomFor s k) (pathOf s k) (rw (f, a, h) at (sym p ∙ q)) in
+      let (x, y, z) = insert-plan-free (usedOf s) (roomFor s k) (pathOf s k) (rw h at b) in
       record {
         aligned = aligned f i (free-slot f x);
         used = z;
@@ -95,7 +97,6 @@ module _ (s : Spans) (k : List ℕ) where
         key = kept-short a;
         size = fitting-says s f .arena;
       }))
-      (λ a. clash (cc (rw (f, a) at (sym p ∙ q)))))
       (λ f. clash (cc (rw f at (sym p ∙ q))))
 
   -- The plan of remove gives a slot to free.

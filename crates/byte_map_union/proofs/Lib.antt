@@ -2,7 +2,5 @@
 pub mod Needing
 pub mod Rooms
 pub mod Plans
-pub mod Storing
-pub mod Turns
 pub mod Joining
 pub mod Settled

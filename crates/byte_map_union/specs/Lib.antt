@@ -1,3 +1,2 @@
 -- The definitions of the byte map's union.
 pub mod Needs
-pub mod Stores

@@ -1,6 +1,6 @@
 -- What the union of byte maps needs of its left, slot by slot of its right, and its tests of two tables of right sizes.
 use Prim.Native.Nat.{ℕ, zero, suc, _+_, _-_}
-use mathlib.Core.Bool.{Bool, true, false, cond, not}
+use mathlib.Core.Bool.{cond, not}
 use mathlib.Core.List.{List}
 use lib.Dec.{leb}
 use lib.ListN.{length, getD}
@@ -8,9 +8,9 @@ use Rattle.model.specs.Slots.{weigh, total, count}
 use Rattle.model.specs.Calls.{Or, no, ok, need, give, union}
 use Rattle.answers.specs.Refusals.{numberOf}
 use Rattle.kinds.specs.declared.Probed.{Probed}
-use Rattle.kinds.specs.declared.Probed.the-variants as probed
 use Rattle.kinds.specs.Columns.{values}
 use Rattle.kinds.specs.Marks.{counted}
+use Rattle.kinds.proofs.Uniting.{missedOf}
 use Rattle.byte_slots.specs.Memory.{Spans, ByteMemory, bare, usedOf, fullDamage}
 use Rattle.byte_slots.specs.Kinds.{maps}
 use Rattle.byte_slots.specs.Probing.{pathOf}
@@ -18,20 +18,13 @@ use Rattle.byte_map_union.specs.declared.Needed.{Needed}
 use Rattle.byte_map_union.specs.declared.Planned.{Planned}
 use Rattle.byte_map_union.specs.declared.Planned.the-variants.{Go, Refused}
 
--- Whether a probing that ended so found no key.
-unfoldable pub missing : Probed → Bool
-missing (probed.Hit i e) = false
-missing (probed.Free i e) = true
-missing (probed.Full e) = true
-missing (probed.Refused x) = true
-
 -- What a key of length n needs, by how its path ended: nothing where it was found.
 unfoldable pub neededBy : Probed → ℕ → Needed
-neededBy p n = record { slots = cond (missing p) 1 0; bytes = cond (missing p) n 0 }
+neededBy p n = record { slots = cond (missedOf p) 1 0; bytes = cond (missedOf p) n 0 }
 
 -- What a key weighs that the left lacks, 0 where it has it.
 unfoldable pub lackOf : Spans → (List ℕ → ℕ) → List ℕ → ℕ
-lackOf l g k = cond (missing (pathOf l k)) (g k) 0
+lackOf l g k = cond (missedOf (pathOf l k)) (g k) 0
 
 module _ (l r : Spans) where
   -- What the slot i of the right needs.

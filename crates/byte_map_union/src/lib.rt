@@ -3,25 +3,23 @@ ghost use mathlib.Core.Path.{_≡_};
 ghost use mathlib.Core.Bool.{true};
 ghost use Prim.Native.Nat.{_≤_, _<_};
 ghost use lib.ListN.{length};
-ghost use Rattle.model.specs.Calls.{rule};
+ghost use Rattle.digest.specs.Home.{keyLimit};
 ghost use Rattle.answers.specs.Numbers.{outcomeNumbers};
 ghost use Rattle.kinds.specs.Calls.{unionOf};
 ghost use Rattle.kinds.specs.Told.{told};
-ghost use Rattle.byte_slots.specs.Memory.{spansNow, spansBefore, spansAfter, fitting, usedOf};
+ghost use Rattle.byte_slots.specs.Memory.{spansNow, spansBefore, fitting};
 ghost use Rattle.byte_slots.specs.Kinds.{maps};
 ghost use Rattle.byte_slots.specs.Maps.{mapNow, before, after};
 ghost use Rattle.byte_map_union.specs.Needs.{neededBy, slotNeeds, tableNeeds, liveMarks, planned, roomOf, planOf};
-ghost use Rattle.byte_map_union.specs.Stores.{Ready, Storable, pairAt, pairsOf, slotStored, allStored};
 use answers::Outcome;
 use answers::Refusal;
-use byte_arena::fill;
 use byte_slots::Surveyed;
-use byte_slots::len_at;
+use byte_slots::key_at;
 use byte_slots::map_fits;
 use byte_slots::mark_at;
-use byte_slots::offset_at;
 use byte_slots::probe;
 use byte_slots::survey;
+use byte_store::map_store_all;
 use kinds::Probed;
 use kinds::count_mark;
 
@@ -71,14 +69,11 @@ fn slot_needs(
     i: usize,
 ) -> Needed
     requires { ⌜ (fitting (spansNow marks offsets lengths arena) ≡ true) × (fitting (spansNow «right_marks» «right_offsets» «right_lengths» «right_arena») ≡ true) × (i < length (now «right_marks»)) ⌝ }
-    ensures { λ r. ⌜ (r ≡ slotNeeds (spansBefore marks offsets lengths arena) (spansBefore «right_marks» «right_offsets» «right_lengths» «right_arena») i) × (r .slots ≤ 1) × (r .bytes ≤ 255) ⌝ }
+    ensures { λ r. ⌜ (r ≡ slotNeeds (spansBefore marks offsets lengths arena) (spansBefore «right_marks» «right_offsets» «right_lengths» «right_arena») i) × (r .slots ≤ 1) × (r .bytes ≤ keyLimit) ⌝ }
 {
     if mark_at(right_marks, right_offsets, right_lengths, right_arena, i) == 1 {
-        let start = offset_at(right_offsets, i) as usize;
-        let len = len_at(right_lengths, i) as usize;
-        let end = start + len;
-        let seen = probe(marks, offsets, lengths, arena, &right_arena[start..end]);
-        return needed_by(seen, len);
+        let key = key_at(right_offsets, right_lengths, right_arena, i);
+        return needed_by(probe(marks, offsets, lengths, arena, key), key.len());
     }
     Needed { slots: 0, bytes: 0 }
 }
@@ -212,110 +207,6 @@ fn plan(
     Planned::Refused(Refusal::Sizes)
 }
 
-// The insert rule with no test: the key's value changes in its slot, or the first free slot of its path takes the key. The bytes used then.
-fn store(
-    marks: &mut [u8],
-    offsets: &mut [u16],
-    lengths: &mut [u8],
-    values: &mut [u64],
-    arena: &mut [u8],
-    key: &[u8],
-    value: u64,
-    used: usize,
-) -> usize
-    requires { ⌜ Storable (mapNow marks offsets lengths values arena) used (now key) value ⌝ }
-    ensures { λ r. ⌜ (after marks offsets lengths values arena ≡ rule maps (before marks offsets lengths values arena) (now (key .entry)) value) × (r ≡ usedOf (spansAfter marks offsets lengths arena)) ⌝ }
-{
-    let seen = probe(marks, offsets, lengths, arena, key);
-    match seen {
-        Probed::Hit(slot, _) => {
-            values[slot] = value;
-            return used;
-        }
-        Probed::Free(slot, _) => {
-            fill(marks, offsets, lengths, arena, slot, used, key);
-            values[slot] = value;
-            return used + key.len();
-        }
-        Probed::Full(_) => return used,
-        Probed::Refused(_) => return used,
-    }
-}
-
-// The insert rule for slot i of the right, where it is live. The bytes used then.
-fn store_slot(
-    marks: &mut [u8],
-    offsets: &mut [u16],
-    lengths: &mut [u8],
-    values: &mut [u64],
-    arena: &mut [u8],
-    right_marks: &[u8],
-    right_offsets: &[u16],
-    right_lengths: &[u8],
-    right_values: &[u64],
-    right_arena: &[u8],
-    i: usize,
-    used: usize,
-) -> usize
-    requires { ⌜ Ready (mapNow marks offsets lengths values arena) used (pairAt (mapNow «right_marks» «right_offsets» «right_lengths» «right_values» «right_arena») i) × (i < length (now «right_values»)) × (i < length (now «right_marks»)) × (length (now «right_offsets») ≡ length (now «right_marks»)) × (length (now «right_lengths») ≡ length (now «right_marks»)) ⌝ }
-    ensures { λ r. ⌜ (after marks offsets lengths values arena ≡ slotStored (before marks offsets lengths values arena) (before «right_marks» «right_offsets» «right_lengths» «right_values» «right_arena») i) × (r ≡ usedOf (spansAfter marks offsets lengths arena)) ⌝ }
-{
-    if mark_at(right_marks, right_offsets, right_lengths, right_arena, i) == 1 {
-        let start = offset_at(right_offsets, i) as usize;
-        let len = len_at(right_lengths, i) as usize;
-        let end = start + len;
-        return store(
-            marks,
-            offsets,
-            lengths,
-            values,
-            arena,
-            &right_arena[start..end],
-            right_values[i],
-            used,
-        );
-    }
-    used
-}
-
-// The right's pairs go into the left by the insert rule, in the right's slot order.
-fn store_all(
-    marks: &mut [u8],
-    offsets: &mut [u16],
-    lengths: &mut [u8],
-    values: &mut [u64],
-    arena: &mut [u8],
-    right_marks: &[u8],
-    right_offsets: &[u16],
-    right_lengths: &[u8],
-    right_values: &[u64],
-    right_arena: &[u8],
-    used: usize,
-)
-    requires { ⌜ Ready (mapNow marks offsets lengths values arena) used (pairsOf (mapNow «right_marks» «right_offsets» «right_lengths» «right_values» «right_arena») (length (now «right_marks»))) × (length (now «right_values») ≡ length (now «right_marks»)) × (length (now «right_marks») ≤ 4096) × (length (now «right_offsets») ≡ length (now «right_marks»)) × (length (now «right_lengths») ≡ length (now «right_marks»)) ⌝ }
-    ensures { λ r. ⌜ after marks offsets lengths values arena ≡ allStored (before marks offsets lengths values arena) (before «right_marks» «right_offsets» «right_lengths» «right_values» «right_arena») (length (now («right_marks» .entry))) ⌝ }
-{
-    let mut end = used;
-    let mut i = 0;
-    while i < right_marks.len() {
-        end = store_slot(
-            marks,
-            offsets,
-            lengths,
-            values,
-            arena,
-            right_marks,
-            right_offsets,
-            right_lengths,
-            right_values,
-            right_arena,
-            i,
-            end,
-        );
-        i += 1;
-    }
-}
-
 // Does what the plan says: all of the right's pairs go into the left, or none.
 fn carry_out(
     way: Planned,
@@ -335,7 +226,7 @@ fn carry_out(
 {
     match way {
         Planned::Go(used) => {
-            store_all(
+            map_store_all(
                 marks,
                 offsets,
                 lengths,

@@ -6,13 +6,13 @@ use mathlib.Core.Logic.{_⊎_, inl, inr}
 use mathlib.Core.Path.{_≡_, refl, sym, _∙_}
 use native.Mathlib.Omega.{arith}
 use denote.Enum.Declared.{tagOf}
-use borrow.Author.Tests.{eq-eqb, ne-eqb, eqb-true}
+use borrow.Author.Tests.{eq-eqb, ne-eqb}
 use lib.Dec.{eqb, ltb}
 use lib.ListN.{length, getD, set}
 use Rattle.model.specs.Path.{Find, hit, miss, damage, at, find}
-use Rattle.model.specs.Calls.{Or, no, ok, need, pass, give, acted, goodFor, vacancy, vacant-insert, after-fill}
+use Rattle.model.specs.Calls.{Or, no, ok, need, give, acted, goodFor, vacancy, vacant-insert, after-fill}
 use Rattle.model.proofs.Cases.{by-bool, by-eq, clash}
-use Rattle.digest.specs.Home.{homeOf}
+use Rattle.digest.specs.Home.{homeOf, keyFits}
 use Rattle.answers.specs.declared.Refusal.{Refusal}
 use Rattle.answers.specs.declared.Refusal.the-variants.{Sizes, LongKey, NoBudget, WalkBeyond, Damaged, BadHandle, NoSlot, NoBytes}
 use Rattle.answers.proofs.Refusal.{the-type}
@@ -24,15 +24,16 @@ use Rattle.kinds.specs.Marks.{keysOnly}
 use Rattle.kinds.specs.Probing.{along}
 use Rattle.kinds.specs.Told.{told}
 use Rattle.kinds.proofs.Bridge.{spotIn}
+use Rattle.byte_slots.specs.declared.Kept.the-variants as kept
 use Rattle.byte_slots.specs.declared.InsertPlan.{InsertPlan}
 use Rattle.byte_slots.specs.declared.InsertPlan.the-variants as insertPlan
 use Rattle.byte_slots.specs.Keys.{byteKeys}
 use Rattle.byte_slots.specs.Kinds.{maps}
 use Rattle.byte_slots.specs.Marks.{markAt}
-use Rattle.byte_slots.specs.Memory.{Spans, ByteMemory, keyAt, filled, usedOf, fullDamage, fitting, keptOf}
-use Rattle.byte_slots.specs.Planning.{insertPlanBy, roomFor, planningInsert, planningMapInsert}
+use Rattle.byte_slots.specs.Memory.{Spans, ByteMemory, keyAt, filled, usedOf, fullDamage, fitting, keeping, keptOf}
+use Rattle.byte_slots.specs.Planning.{insertPlanBy, roomFor, planningKept, planningInsert, planningMapInsert}
 use Rattle.byte_slots.specs.Probing.{pathFrom, pathOf}
-use Rattle.byte_slots.proofs.Bridge.{spot-is, short-refused, kept-no}
+use Rattle.byte_slots.proofs.Bridge.{spot-is, short-refused, pass-kept}
 use Rattle.byte_arena.specs.Needs.{Fillable}
 use Rattle.byte_slots.proofs.Seeking.{by-long}
 use Rattle.byte_arena.proofs.Plans.{map-plan-insert-free}
@@ -85,6 +86,13 @@ refusal-stays BadHandle t = refl
 refusal-stays NoSlot t = absurd (omega (arith, low 6 t))
 refusal-stays NoBytes t = absurd (omega (arith, low 7 t))
 
+-- and so does a key's own
+kept-stays : (k : List ℕ) (r : Refusal) → keeping k ≡ kept.Refused r → handleRefusal r ≡ r
+unfolding handleRefusal
+kept-stays k r e = by-bool (keyFits (length k))
+    (λ f. clash (cc (rw f at e)))
+    (λ f. let z : LongKey ≡ r = cc (rw f at e) in rw (← z))
+
 -- a good handle's slot is the one that the plan names
 vacancy-free : (i : ℕ) {u : ℕ} (p : InsertPlan) → vacancyBy i p ≡ Good u → (e : ℕ) × (p ≡ insertPlan.Free i e u)
 unfolding vacancyBy
@@ -116,13 +124,11 @@ module _ (m : ByteMemory values) (i : ℕ) (k : List ℕ) where
   vacancy-short e = short-refused values m _ e
 
   vacancy-planning : eqb (length (m .spans .marks)) (length (m .words)) ≡ true → vacancy maps m i k ≡ worthOf (vacancyBy i (planningInsert (m .spans) k))
-  unfolding vacancy need pass planningInsert vacancyBy handleRefusal
+  unfolding vacancy need planningInsert planningKept keptOf vacancyBy handleRefusal
   vacancy-planning long = rw long (by-bool (fitting (m .spans))
-      (λ f. rw f (by-bool (eqb (keptOf k) 0)
-      (λ a. rw (a, eqb-true (keptOf k) 0 a) (by-bool (fullDamage (m .spans))
+      (λ f. rw f (pass-kept (λ p. worthOf (vacancyBy i p)) (keeping k) _ _ (λ r e. rw (kept-stays k r e)) (by-bool (fullDamage (m .spans))
       (λ h. rw h)
-      (λ h. rw (h, spot-is values m k) good-path)))
-      (λ a. rw (a, kept-no k a))))
+      (λ h. rw (h, spot-is values m k) good-path))))
       (λ f. rw f))
 
   -- a vacant handle by insert's plan

@@ -1,17 +1,20 @@
 -- What the answers over the spans say of the calls' definitions, for any column: the laws that byte maps and byte sets cite.
-use Prim.Native.Nat.{ℕ, _≤_, _<_}
+use Prim.Native.Nat.{ℕ, zero, suc, _≤_, _<_}
 use mathlib.Core.Bool.{Bool, true, false}
 use mathlib.Core.List.{List}
 use mathlib.Core.Path.{_≡_, refl, sym, _∙_}
+use native.Mathlib.Omega.{arith}
 use borrow.Author.Tests.{eqb-true}
 use lib.Dec.{eqb}
 use lib.ListN.{length}
 use Rattle.model.specs.Store.{path, live-count, used, damagedSlots}
-use Rattle.model.specs.Calls.{Or, no, ok, need, pass, Seen, found, absent, Spot, occupied, vacant, seenBy, spotBy, get, entry, remove}
+use Rattle.model.specs.Calls.{Or, no, ok, need, pass, Seen, found, absent, Spot, occupied, vacant, seenBy, spotBy, get, entry, remove, rule, lacking}
 use Rattle.model.proofs.Cases.{by-bool, clash}
 use Rattle.digest.specs.Home.{homeOf, keyFits}
 use Rattle.digest.proofs.Bounds.{home-below}
+use Rattle.answers.specs.declared.Refusal.{Refusal}
 use Rattle.answers.specs.Refusals.{numberOf}
+use Rattle.answers.proofs.Told.{numberOf-range}
 use Rattle.kinds.specs.declared.Probed.{Probed}
 use Rattle.kinds.specs.declared.Probed.the-variants as probed
 use Rattle.kinds.specs.declared.Scanned.{Scanned}
@@ -22,13 +25,16 @@ use Rattle.kinds.specs.Probing.{along}
 use Rattle.kinds.proofs.Alike.{total-alike}
 use Rattle.kinds.proofs.Bridge as kinds
 use Rattle.kinds.proofs.Bridge.{seenOf, spotIn, path-cells, seen-path, spot-path}
+use Rattle.kinds.proofs.Uniting.{missedOf, ruleOf, lacking-probed, rule-probed}
+use Rattle.byte_slots.specs.declared.Kept.{Kept}
+use Rattle.byte_slots.specs.declared.Kept.the-variants as kept
 use Rattle.byte_slots.specs.declared.InsertPlan.{InsertPlan}
 use Rattle.byte_slots.specs.declared.InsertPlan.the-variants as insertPlan
 use Rattle.byte_slots.specs.declared.RemovePlan.{RemovePlan}
 use Rattle.byte_slots.specs.declared.RemovePlan.the-variants as removePlan
-use Rattle.byte_slots.specs.Memory.{Spans, ByteMemory, byteStore, keyAt, usedOf, fullDamage, fitting, askedOf, keptOf}
+use Rattle.byte_slots.specs.Memory.{Spans, ByteMemory, byteStore, keyAt, usedOf, fullDamage, fitting, askedOf, keeping, keptNumber, keptOf}
 use Rattle.byte_slots.specs.Marks.{markAt}
-use Rattle.byte_slots.specs.Planning.{insertPlanBy, roomFor, planningInsert, removePlanBy, planningRemove}
+use Rattle.byte_slots.specs.Planning.{insertPlanBy, roomFor, planningKept, keptPlan, planningInsert, removePlanBy, planningRemove}
 use Rattle.byte_slots.specs.Probing.{pathFrom, pathOf, probing}
 use Rattle.byte_slots.specs.Scanning.{scanning}
 use Rattle.byte_slots.proofs.Marks.{slots-cells}
@@ -46,16 +52,23 @@ lostOf read (removePlan.Hit i e u) = ok (found (read i) i e)
 lostOf read (removePlan.Absent e) = ok (absent e)
 lostOf read (removePlan.Refused x) = no (numberOf x)
 
--- a key that may not be asked for is refused 2, and so one that may not be stored
+-- a key that may not be asked for is refused 2
 pub asked-no : (k : List ℕ) → eqb (askedOf k) 0 ≡ false → askedOf k ≡ 2
 unfolding askedOf
 asked-no k e = by-bool (keyFits (length k))
     (λ f. clash (cc (rw f at e)))
     (λ f. rw f)
 
-pub kept-no : (k : List ℕ) → eqb (keptOf k) 0 ≡ false → keptOf k ≡ 2
-unfolding keptOf
-kept-no k e = asked-no k e
+-- one that may not be stored, by the number of what refuses it
+pass-no : {A : Type 0} (n : ℕ) (a : Or A) → 1 ≤ n → pass n a ≡ no n
+unfolding pass
+pass-no zero a l = let z : ⊥ = omega arith in absurd z
+pass-no (suc n) a l = refl
+
+pub pass-kept : {A : Type 0} (f : InsertPlan → Or A) (x : Kept) (a : Or A) (p : InsertPlan) → ((r : Refusal) → x ≡ kept.Refused r → f (insertPlan.Refused r) ≡ no (numberOf r)) → a ≡ f p → pass (keptNumber x) a ≡ f (keptPlan x p)
+unfolding pass keptPlan
+pass-kept f kept.Fine a p h e = e
+pass-kept f (kept.Refused r) a p h e = pass-no (numberOf r) a (numberOf-range r .0) ∙ sym (h r refl)
 
 -- both plans, by the path
 spot-planned : {W : Type 0} (read : ℕ → W) (u : ℕ) (room : Bool) (p : Probed) → spotIn room read p ≡ spotOf read (insertPlanBy u room p)
@@ -104,6 +117,13 @@ module _ {W : Type 0} (C : Column W) (m : ByteMemory C) where
     unfolding roomFor
     spot-is = rw (← path-is, ← used-is) (spot-path (byteStore C) m (markAt (m .spans)) (keyAt (m .spans)) (C .read (m .words)) stand k)
 
+    -- whether the key is absent, and what the insert rule with no test leaves
+    pub lacking-is : lacking (byteStore C) m k ≡ missedOf (pathOf (m .spans) k)
+    lacking-is = lacking-probed (byteStore C) m k (sym path-is)
+
+    pub rule-is : (v : W) → rule (byteStore C) m k v ≡ ruleOf (byteStore C) m k v (pathOf (m .spans) k)
+    rule-is v = rule-probed (byteStore C) m k (sym path-is) v
+
     -- a slot that the path found is one of the table's
     pub path-inside : fitting (m .spans) ≡ true → {i e : ℕ} → pathOf (m .spans) k ≡ probed.Hit i e → i < length (m .spans .marks)
     path-inside f q = kinds.hit-below (byteStore C) m k (home-below 0 (length (m .spans .marks)) k (fitting-says (m .spans) f .some)) (path-is ∙ q)
@@ -138,13 +158,11 @@ module _ {W : Type 0} (C : Column W) (m : ByteMemory C) where
           (λ f. rw f))
 
       pub entry-planning : entry (byteStore C) m k ≡ spotOf (C .read (m .words)) (planningInsert (m .spans) k)
-      unfolding entry need pass planningInsert
+      unfolding entry need planningInsert planningKept keptOf
       entry-planning = rw long (by-bool (fitting (m .spans))
-          (λ f. rw f (by-bool (eqb (keptOf k) 0)
-          (λ a. rw (a, eqb-true (keptOf k) 0 a) (by-bool (fullDamage (m .spans))
+          (λ f. rw f (pass-kept (spotOf (C .read (m .words))) (keeping k) _ _ (λ r e. refl) (by-bool (fullDamage (m .spans))
           (λ h. rw h)
-          (λ h. rw h (spot-is ∙ spot-planned (C .read (m .words)) (usedOf (m .spans)) (roomFor (m .spans) k) (pathOf (m .spans) k)))))
-          (λ a. rw (a, kept-no k a))))
+          (λ h. rw h (spot-is ∙ spot-planned (C .read (m .words)) (usedOf (m .spans)) (roomFor (m .spans) k) (pathOf (m .spans) k))))))
           (λ f. rw f))
 
   -- the scan tells the table's own damage and length

@@ -15,4 +15,4 @@ asked-bar k = by-bool (keyFits (length k)) (λ e. rw e (inl refl)) (λ e. rw e (
 
 pub kept-bar : (k : List ℕ) → KeyBar (keptOf k)
 unfolding keptOf
-kept-bar k = asked-bar k
+kept-bar k = by-bool (keyFits (length k)) (λ e. rw e (inl refl)) (λ e. rw e (inr refl))

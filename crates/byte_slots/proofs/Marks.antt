@@ -1,13 +1,15 @@
 -- The mark of a slot as calls see it, and the slots by it.
-use Prim.Native.Nat.{ℕ, zero, suc, _+_, _≤_, _<_}
+use Prim.Native.Nat.{ℕ, zero, suc, _+_, _-_, _≤_, _<_}
 use mathlib.Core.Bool.{Bool, true, false}
 use mathlib.Core.List.{List}
 use mathlib.Core.Path.{_≡_, refl, sym, _∙_, fun-ext}
 use native.Mathlib.Omega.{arith}
 use borrow.Author.Tests.{le-leb, lt-leb, leb-true}
 use lib.Dec.{leb}
-use lib.ListN.{length, getD, drop, length-drop, List·getD-eq-default}
+use lib.ListN.{length, getD, take, drop, length-drop, List·getD-eq-default}
 use lib.Seq.{length-take-le}
+use Rattle.lists.proofs.Parts.{length-part}
+use Rattle.digest.specs.Home.{keyLimit}
 use Rattle.kinds.specs.Marks.{cell, cellsOf}
 use Rattle.byte_slots.specs.Memory.{Spans, part, endAt, keyAt, spanned, slotsOf}
 use Rattle.byte_slots.specs.Marks.{shown, markAt}
@@ -79,6 +81,16 @@ shown-live false (suc (suc m)) e = absurd (omega arith)
 pub live-within : (s : Spans) (i : ℕ) → markAt s i ≡ 1 → endAt s i ≤ length (s .arena)
 unfolding markAt
 live-within s i e = leb-true (endAt s i) (length (s .arena)) (shown-live (leb (endAt s i) (length (s .arena))) (getD (s .marks) i 0) e)
+
+-- by its words
+pub span-within : (s : Spans) (i : ℕ) {m : ℕ} → m ≡ markAt s i → m ≡ 1 → getD (s .offsets) i 0 + getD (s .lengths) i 0 ≤ length (s .arena)
+unfolding endAt
+span-within s i p one = live-within s i (sym p ∙ one)
+
+-- a part by its words, as code takes it
+pub span-part : (arena : List ℕ) {o n a l : ℕ} → o ≡ a → (n ≡ l) × (n ≤ keyLimit) → a + l ≤ length arena → (take (o + n - o) (drop o arena) ≡ part arena a l) × (length (take (o + n - o) (drop o arena)) ≤ keyLimit)
+unfolding part
+span-part arena {o} {n} {a} {l} p (q, b) h = let z : o + n - o ≡ l = omega arith in rw (z, p) (refl, omega (arith, length-part arena a l h))
 
 -- and so its key has as many bytes as its length says
 pub live-key : (s : Spans) (i : ℕ) → markAt s i ≡ 1 → length (keyAt s i) ≡ getD (s .lengths) i 0

@@ -17,11 +17,12 @@ use Rattle.byte_slots.specs.declared.InsertPlan.{InsertPlan}
 use Rattle.byte_slots.specs.declared.InsertPlan.the-variants as insertPlan
 use Rattle.byte_slots.specs.declared.RemovePlan.{RemovePlan}
 use Rattle.byte_slots.specs.declared.RemovePlan.the-variants as removePlan
-use Rattle.byte_slots.specs.Memory.{ByteMemory, fitting, fullDamage, usedOf, keptOf}
+use Rattle.byte_slots.specs.Memory.{ByteMemory, fitting, fullDamage, usedOf, keeping}
 use Rattle.byte_slots.specs.Kinds.{maps}
 use Rattle.byte_slots.specs.Probing.{pathOf}
-use Rattle.byte_slots.specs.Planning.{insertPlanBy, roomFor, planningInsert, planningMapInsert, planningRemove, planningMapRemove}
+use Rattle.byte_slots.specs.Planning.{insertPlanBy, roomFor, planningKept, planningInsert, planningMapInsert, planningRemove, planningMapRemove}
 use Rattle.byte_slots.proofs.Bridge.{spotOf, lostOf, short-refused, path-inside, remove-planning, entry-planning}
+use Rattle.byte_slots.proofs.Plans.{kept-plan}
 use Rattle.byte_slots.proofs.Seeking.{long-is, short-is, by-long, long-only}
 
 -- a plan that found the key has its slot from the path
@@ -70,13 +71,13 @@ module _ (m : ByteMemory values) (k : List ℕ) where
 
   -- a found slot is one of the table's
   plan-insert-inside : {i e : ℕ} → planningInsert (m .spans) k ≡ insertPlan.Hit i e → i < length (m .spans .marks)
-  unfolding planningInsert
+  unfolding planningInsert planningKept
   plan-insert-inside q = by-bool (fitting (m .spans))
-      (λ f. by-bool (eqb (keptOf k) 0)
-      (λ a. by-bool (fullDamage (m .spans))
-      (λ h. clash (cc (rw (f, a, h) at q)))
-      (λ h. path-inside values m k f (insert-plan-hit (usedOf (m .spans)) (roomFor (m .spans) k) (pathOf (m .spans) k) (rw (f, a, h) at q))))
-      (λ a. clash (cc (rw (f, a) at q))))
+      (λ f.
+      let (a, x) = kept-plan (keeping k) (rw f at q) (λ r z. clash cc) in
+      by-bool (fullDamage (m .spans))
+      (λ h. clash (cc (rw h at x)))
+      (λ h. path-inside values m k f (insert-plan-hit (usedOf (m .spans)) (roomFor (m .spans) k) (pathOf (m .spans) k) (rw h at x))))
       (λ f. clash (cc (rw f at q)))
 
   pub map-plan-insert-inside : {r : InsertPlan} {i e : ℕ} → r ≡ planningMapInsert m k → r ≡ insertPlan.Hit i e → i < length (m .words)

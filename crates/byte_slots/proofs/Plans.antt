@@ -2,24 +2,27 @@
 use Prim.Native.Nat.{ℕ, _-_, _≤_}
 use mathlib.Core.Bool.{Bool, true, false}
 use mathlib.Core.List.{List}
-use mathlib.Core.Path.{_≡_, sym, _∙_}
+use mathlib.Core.Path.{_≡_, refl, sym, _∙_}
 use native.Mathlib.Omega.{arith}
 use borrow.Author.Tests.{ltb-false}
 use lib.Dec.{ltb, leb, eqb}
 use lib.ListN.{length}
 use Rattle.model.specs.Slots.{anyDamaged}
 use Rattle.model.proofs.Cases.{by-bool, clash}
+use Rattle.answers.specs.declared.Refusal.{Refusal}
 use Rattle.answers.specs.declared.Refusal.the-variants as refusal
 use Rattle.digest.specs.Home.{homeOf}
 use Rattle.kinds.specs.declared.Probed.{Probed}
 use Rattle.byte_slots.specs.declared.Surveyed.{Surveyed}
 use Rattle.byte_slots.specs.declared.Surveyed.the-variants as surveyed
+use Rattle.byte_slots.specs.declared.Kept.{Kept}
+use Rattle.byte_slots.specs.declared.Kept.the-variants as kept
 use Rattle.byte_slots.specs.declared.InsertPlan.{InsertPlan}
 use Rattle.byte_slots.specs.declared.InsertPlan.the-variants as insertPlan
 use Rattle.byte_slots.specs.declared.RemovePlan.{RemovePlan}
 use Rattle.byte_slots.specs.declared.RemovePlan.the-variants as removePlan
-use Rattle.byte_slots.specs.Memory.{Spans, bare, usedOf, fullDamage, fitting, askedOf, keptOf}
-use Rattle.byte_slots.specs.Planning.{insertPlanBy, roomFor, planningInsert, removePlanBy, planningRemove}
+use Rattle.byte_slots.specs.Memory.{Spans, bare, usedOf, fullDamage, fitting, askedOf, keeping}
+use Rattle.byte_slots.specs.Planning.{insertPlanBy, roomFor, planningKept, keptPlan, planningInsert, removePlanBy, planningRemove}
 use Rattle.byte_slots.specs.Probing.{pathFrom, pathOf}
 use Rattle.byte_slots.specs.Surveying.{surveying}
 
@@ -47,6 +50,22 @@ module _ (s : Spans) {r : Surveyed} (p : r ≡ surveying s) where
   pub surveyed-within : {u : ℕ} → r ≡ surveyed.Used u → u ≤ length (s .arena)
   surveyed-within q = let (h, e) = surveyed-used q in omega (arith, used-within s h)
 
+-- the plan of a key that may be stored
+module _ (s : Spans) (k : List ℕ) {r : Surveyed} (v : r ≡ surveying s) where
+  pub plan-kept-bad : r ≡ surveyed.Damaged → insertPlan.Refused refusal.Damaged ≡ planningKept s k
+  unfolding planningKept
+  plan-kept-bad x = rw (surveyed-bad s v x)
+
+  pub plan-kept-path : {u h : ℕ} {f : Probed} {a : InsertPlan} → r ≡ surveyed.Used u → h ≡ homeOf 0 (length (s .marks)) k → f ≡ pathFrom s h k → a ≡ insertPlanBy u (leb (length k) (length (s .arena) - u)) f → a ≡ planningKept s k
+  unfolding planningKept roomFor pathOf
+  plan-kept-path x i y z = let (n, o) = surveyed-used s v x in rw (n, ← i, ← y, ← o) z
+
+-- a plan that is no refusal: the key may be stored
+pub kept-plan : (x : Kept) {p a : InsertPlan} → keptPlan x p ≡ a → ((r : Refusal) → a ≡ insertPlan.Refused r → ⊥) → (x ≡ kept.Fine) × (p ≡ a)
+unfolding keptPlan
+kept-plan kept.Fine e h = (refl, e)
+kept-plan (kept.Refused r) e h = absurd (h r (sym e))
+
 -- the plans, by the tests in their order
 module _ (s : Spans) (k : List ℕ) {b : Bool} (p : b ≡ fitting s) where
   pub plan-insert-unfit : b ≡ false → insertPlan.Refused refusal.Sizes ≡ planningInsert s k
@@ -57,19 +76,14 @@ module _ (s : Spans) (k : List ℕ) {b : Bool} (p : b ≡ fitting s) where
   unfolding planningRemove
   plan-remove-unfit q = rw (sym p ∙ q)
 
-  module _ (q : b ≡ true) {t : Bool} (w : t ≡ eqb (keptOf k) 0) where
-    pub plan-insert-long : t ≡ false → insertPlan.Refused refusal.LongKey ≡ planningInsert s k
-    unfolding planningInsert
-    plan-insert-long e = rw (sym p ∙ q, sym w ∙ e)
+  module _ (q : b ≡ true) {t : Kept} (w : t ≡ keeping k) where
+    pub plan-insert-kept : {a : InsertPlan} → t ≡ kept.Fine → a ≡ planningKept s k → a ≡ planningInsert s k
+    unfolding planningInsert keptPlan
+    plan-insert-kept e z = rw (sym p ∙ q, sym w ∙ e) z
 
-    module _ (e : t ≡ true) {r : Surveyed} (v : r ≡ surveying s) where
-      pub plan-insert-bad : r ≡ surveyed.Damaged → insertPlan.Refused refusal.Damaged ≡ planningInsert s k
-      unfolding planningInsert
-      plan-insert-bad x = rw (sym p ∙ q, sym w ∙ e, surveyed-bad s v x)
-
-      pub plan-insert-path : {u h : ℕ} {f : Probed} {a : InsertPlan} → r ≡ surveyed.Used u → h ≡ homeOf 0 (length (s .marks)) k → f ≡ pathFrom s h k → a ≡ insertPlanBy u (leb (length k) (length (s .arena) - u)) f → a ≡ planningInsert s k
-      unfolding planningInsert roomFor pathOf
-      plan-insert-path x i y z = let (n, o) = surveyed-used s v x in rw (sym p ∙ q, sym w ∙ e, n, ← i, ← y, ← o) z
+    pub plan-insert-refused : {x : Refusal} → t ≡ kept.Refused x → insertPlan.Refused x ≡ planningInsert s k
+    unfolding planningInsert keptPlan
+    plan-insert-refused e = rw (sym p ∙ q, sym w ∙ e)
 
   module _ (q : b ≡ true) {t : Bool} (w : t ≡ eqb (askedOf k) 0) where
     pub plan-remove-long : t ≡ false → removePlan.Refused refusal.LongKey ≡ planningRemove s k

@@ -3,16 +3,17 @@ use Prim.Native.Nat.{ℕ, _≤_, _<_}
 use mathlib.Core.Bool.{Bool, true, false, _&&_}
 use mathlib.Core.List.{List}
 use mathlib.Core.Path.{_≡_, sym, _∙_}
-use borrow.Author.Tests.{ltb-true, leb-true, eqb-true, eq-eqb, ne-eqb}
+use borrow.Author.Tests.{ltb-true, leb-true, le-leb, lt-leb, eqb-true, eq-eqb, ne-eqb}
 use lib.Dec.{ltb, leb, eqb}
 use lib.ListN.{length}
 use Rattle.model.proofs.Cases.{both, by-bool}
-use Rattle.digest.specs.Home.{homeOf, slotsFit, keyFits}
+use Rattle.digest.specs.Home.{homeOf, slotsFit, keyFits, keyLimit}
 use Rattle.digest.proofs.Bounds.{home-below}
 use Rattle.answers.specs.declared.Refusal.the-variants.{Sizes, LongKey}
 use Rattle.kinds.specs.declared.Probed.{Probed}
 use Rattle.kinds.specs.declared.Probed.the-variants.{Refused}
-use Rattle.byte_slots.specs.Memory.{Spans, fitting, arenaLimit, askedOf, keptOf}
+use Rattle.byte_slots.specs.declared.Kept.the-variants as kept
+use Rattle.byte_slots.specs.Memory.{Spans, fitting, arenaLimit, askedOf, keeping}
 use Rattle.byte_slots.specs.Probing.{pathFrom, pathOf, probing}
 
 -- Marks, offsets and lengths of one length that is not 0 and within its limit, and an arena within its own.
@@ -56,14 +57,22 @@ module _ (s : Spans) where
     unfolding fitting
     fits-arena q e h = rw (← p, q, eq-eqb (length (s .marks)) (length (s .offsets)) e, eq-eqb (length (s .marks)) (length (s .lengths)) h)
 
--- the test of a key that is asked for, and of one that is to be stored
+-- the test of a key that is asked for
 pub asked-test : (k : List ℕ) → keyFits (length k) ≡ eqb (askedOf k) 0
 unfolding askedOf
 asked-test k = by-bool (keyFits (length k)) (λ e. rw e) (λ e. rw e)
 
-pub kept-test : (k : List ℕ) → keyFits (length k) ≡ eqb (keptOf k) 0
-unfolding keptOf
-kept-test k = asked-test k
+-- and of one that is to be stored
+pub kept-fine : (k : List ℕ) → length k ≤ keyLimit → kept.Fine ≡ keeping k
+kept-fine k l = rw (le-leb (length k) keyLimit l)
+
+pub kept-long : (k : List ℕ) → keyLimit < length k → kept.Refused LongKey ≡ keeping k
+kept-long k l = rw (lt-leb (length k) keyLimit l)
+
+-- where sizes fit, the probing of a short key is its path
+pub probing-short : (s : Spans) (k : List ℕ) → fitting s ≡ true → length k ≤ keyLimit → probing s k ≡ pathOf s k
+unfolding probing
+probing-short s k f l = rw (f, sym (asked-test k), le-leb (length k) keyLimit l)
 
 -- the probing, by the tests of sizes and key
 module _ (s : Spans) (k : List ℕ) {b : Bool} (p : b ≡ fitting s) where

@@ -11,6 +11,7 @@ use lib.ListN.{length, getD}
 use Rattle.model.specs.Slots.{isDamaged, weigh, total, anyDamaged}
 use Rattle.model.proofs.Cases.{both, by-bool, by-lt, clash}
 use Rattle.model.proofs.Slots.{damaged-bad}
+use Rattle.digest.specs.Home.{keyLimit}
 use Rattle.kinds.specs.Marks.{cell}
 use Rattle.kinds.proofs.Scanning.{cell-bad, cell-sound}
 use Rattle.byte_slots.specs.declared.Surveyed.the-variants.{Used, Damaged}
@@ -60,7 +61,7 @@ past-damaged s (suc n) h = by-bool (eqb (getD (s .marks) n 0) 1 && ltb (length (
 pub record Surveying (s : Spans) (used top i : ℕ) : Type 0 where
   pub sized : Sized s
   pub within : i ≤ length (s .marks)
-  pub low : used ≤ 255 * i
+  pub low : used ≤ keyLimit * i
   pub ends : (u : ℕ) → beyond s u i ≡ ltb u top
   pub sound : top ≤ length (s .arena) → (used ≡ total length (bare s) i) × (anyDamaged (bare s) i ≡ false)
 
@@ -76,7 +77,7 @@ module _ {s : Spans} {used top i : ℕ} (w : Surveying s used top i) where
     survey-bad h k = rw (damaged-bad (bare s) (length (s .marks)) i l (slot-cell s (λ j. tt {0}) i ∙ cell-bad (markAt s i) (keyAt s i) (tt {0}) (omega (arith, mark-other s i p k))))
 
     -- a live one
-    pub survey-live : {n d u t : ℕ} → m ≡ 1 → (n ≡ getD (s .lengths) i 0) × (n ≤ 255) → d ≡ getD (s .offsets) i 0 + n → u ≡ used + n → t ≡ higherEnd d top → Surveying s u t (i + 1)
+    pub survey-live : {n d u t : ℕ} → m ≡ 1 → (n ≡ getD (s .lengths) i 0) × (n ≤ keyLimit) → d ≡ getD (s .offsets) i 0 + n → u ≡ used + n → t ≡ higherEnd d top → Surveying s u t (i + 1)
     unfolding total weigh cell anyDamaged beyond isDamaged
     survey-live {n} {d} {u} {t} h (q, few) r b e =
         let raw : getD (s .marks) i 0 ≡ 1 = omega arith in

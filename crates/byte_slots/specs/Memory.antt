@@ -8,9 +8,13 @@ use lib.Dec.{eqb, ltb, leb}
 use lib.ListN.{length, getD, take, drop, set, replicate}
 use Rattle.model.specs.Slots.{Slot, never, freed, damaged, live, Table, total, anyDamaged}
 use Rattle.model.specs.Store.{Store}
+use Rattle.answers.specs.declared.Refusal.the-variants.{LongKey}
+use Rattle.answers.specs.Refusals.{numberOf}
 use Rattle.digest.specs.Home.{homeOf, slotsFit, keyFits}
 use Rattle.kinds.specs.Columns.{Column}
 use Rattle.kinds.specs.Lent.{Lent}
+use Rattle.byte_slots.specs.declared.Kept.{Kept}
+use Rattle.byte_slots.specs.declared.Kept.the-variants.{Fine, Refused}
 use Rattle.byte_slots.specs.Keys.{byteKeys}
 
 -- The most bytes that an arena has.
@@ -139,9 +143,18 @@ wiped s = record {
 unfoldable pub askedOf : List ℕ → ℕ
 askedOf k = cond (keyFits (length k)) 0 2
 
+-- Whether a key may be stored, or why not: above the key limit it may not.
+abbrev pub keeping : List ℕ → Kept
+keeping k = cond (keyFits (length k)) Fine (Refused LongKey)
+
+-- The number of that refusal, 0 where there is none.
+abbrev pub keptNumber : Kept → ℕ
+keptNumber Fine = 0
+keptNumber (Refused x) = numberOf x
+
 -- The refusal of a key that is to be stored.
 unfoldable pub keptOf : List ℕ → ℕ
-keptOf k = askedOf k
+keptOf k = keptNumber (keeping k)
 
 -- The lent lists of a byte table with a column beside its keys.
 pub record ByteMemory {W : Type 0} (C : Column W) : Type 0 where

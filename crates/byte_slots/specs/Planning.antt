@@ -9,10 +9,12 @@ use Rattle.kinds.specs.declared.Probed.{Probed}
 use Rattle.kinds.specs.declared.Probed.the-variants as probed
 use Rattle.byte_slots.specs.declared.InsertPlan.{InsertPlan}
 use Rattle.byte_slots.specs.declared.InsertPlan.the-variants as insertPlan
+use Rattle.byte_slots.specs.declared.Kept.{Kept}
+use Rattle.byte_slots.specs.declared.Kept.the-variants as kept
 use Rattle.byte_slots.specs.declared.RemovePlan.{RemovePlan}
 use Rattle.byte_slots.specs.declared.RemovePlan.the-variants as removePlan
 use Rattle.kinds.specs.Columns.{values}
-use Rattle.byte_slots.specs.Memory.{Spans, ByteMemory, usedOf, fullDamage, fitting, askedOf, keptOf}
+use Rattle.byte_slots.specs.Memory.{Spans, ByteMemory, usedOf, fullDamage, fitting, askedOf, keeping}
 use Rattle.byte_slots.specs.Probing.{pathOf}
 use Rattle.byte_slots.specs.Seeking.{whereLong}
 
@@ -27,14 +29,18 @@ insertPlanBy u room (probed.Refused x) = insertPlan.Refused x
 unfoldable pub roomFor : Spans → List ℕ → Bool
 roomFor s k = leb (length k) (length (s .arena) - usedOf s)
 
--- The plan of a call that stores a key: refusals 1, 2 and 5, then what its path says.
+-- The plan of a call that stores a key that may be stored: refusal 5, then what its path says.
+unfoldable pub planningKept : Spans → List ℕ → InsertPlan
+planningKept s k = cond (fullDamage s) (insertPlan.Refused refusal.Damaged) (insertPlanBy (usedOf s) (roomFor s k) (pathOf s k))
+
+-- That plan by the test of the key: a key that may not be stored is refused by what that says.
+unfoldable pub keptPlan : Kept → InsertPlan → InsertPlan
+keptPlan kept.Fine p = p
+keptPlan (kept.Refused x) p = insertPlan.Refused x
+
+-- The plan of a call that stores a key: refusal 1, the key's own, then the rest.
 unfoldable pub planningInsert : Spans → List ℕ → InsertPlan
-planningInsert s k =
-    cond (fitting s)
-    (cond (eqb (keptOf k) 0)
-    (cond (fullDamage s) (insertPlan.Refused refusal.Damaged) (insertPlanBy (usedOf s) (roomFor s k) (pathOf s k)))
-    (insertPlan.Refused refusal.LongKey))
-    (insertPlan.Refused refusal.Sizes)
+planningInsert s k = cond (fitting s) (keptPlan (keeping k) (planningKept s k)) (insertPlan.Refused refusal.Sizes)
 
 -- What remove makes of its path, where u bytes are used.
 unfoldable pub removePlanBy : ℕ → Probed → RemovePlan

@@ -5,14 +5,15 @@ ghost use Prim.Native.Nat.{_+_, _-_, _≤_, _<_};
 ghost use lib.Dec.{eqb, leb};
 ghost use lib.ListN.{length, getD, set, take, drop};
 ghost use Rattle.lists.specs.Bytes.{le};
+ghost use Rattle.digest.specs.Home.{keyLimit};
 ghost use Rattle.byte_slots.specs.Keys.{sameBytes};
 ghost use Rattle.kinds.specs.Calls.{sizedOf};
 ghost use Rattle.byte_slots.specs.Kinds.{maps};
 ghost use Rattle.byte_slots.specs.Maps.{before};
-ghost use Rattle.byte_slots.specs.Memory.{spansNow, spansBefore, fitting, askedOf, keptOf};
+ghost use Rattle.byte_slots.specs.Memory.{part, spansNow, spansBefore, fitting, askedOf, keeping};
 ghost use Rattle.byte_slots.specs.Marks.{markAt};
 ghost use Rattle.byte_slots.specs.Probing.{sightAt, pathFrom, probing};
-ghost use Rattle.byte_slots.specs.Planning.{insertPlanBy, planningInsert, planningMapInsert, removePlanBy, planningRemove, planningMapRemove};
+ghost use Rattle.byte_slots.specs.Planning.{insertPlanBy, planningKept, planningInsert, planningMapInsert, removePlanBy, planningRemove, planningMapRemove};
 ghost use Rattle.byte_slots.specs.Scanning.{scanning, nexting};
 ghost use Rattle.byte_slots.specs.Seeking.{probingMap};
 ghost use Rattle.byte_slots.specs.Surveying.{higherEnd, surveying};
@@ -43,6 +44,12 @@ pub enum Surveyed {
     Damaged,
 }
 
+// Whether a key may be stored, or why not.
+pub enum Kept {
+    Fine,
+    Refused(Refusal),
+}
+
 // The plan of a call that stores a key: the key's slot, or a free slot with `used`, each with the examined number; or a refusal.
 pub enum InsertPlan {
     Hit(usize, usize),
@@ -70,14 +77,14 @@ pub fn offset_at(offsets: &[u16], i: usize) -> u16
 // The length of slot i.
 pub fn len_at(lengths: &[u8], i: usize) -> u16
     requires { ⌜ i < length (now lengths) ⌝ }
-    ensures { λ r. ⌜ (r ≡ getD (now (lengths .entry)) i 0) × (r ≤ 255) ⌝ }
+    ensures { λ r. ⌜ (r ≡ getD (now (lengths .entry)) i 0) × (r ≤ keyLimit) ⌝ }
 {
     lengths[i] as u16
 }
 
 // The length of slot i is set.
 pub fn put_len(lengths: &mut [u8], i: usize, n: usize)
-    requires { ⌜ (i < length (now lengths)) × (n ≤ 255) ⌝ }
+    requires { ⌜ (i < length (now lengths)) × (n ≤ keyLimit) ⌝ }
     ensures { λ r. ⌜ now (lengths .exit) ≡ set (now (lengths .entry)) i n ⌝ }
 {
     lengths[i] = n as u8;
@@ -96,6 +103,16 @@ pub fn mark_at(marks: &[u8], offsets: &[u16], lengths: &[u8], arena: &[u8], i: u
         return 1;
     }
     mark
+}
+
+// The key of slot i, whose span ends in the arena.
+pub fn key_at<'a>(offsets: &[u16], lengths: &[u8], arena: &'a [u8], i: usize) -> &'a [u8]
+    requires { ⌜ (i < length (now lengths)) × (getD (now offsets) i 0 + getD (now lengths) i 0 ≤ length (now arena)) ⌝ }
+    ensures { λ r. ⌜ (now r ≡ part (now (arena .entry)) (getD (now (offsets .entry)) i 0) (getD (now (lengths .entry)) i 0)) × (length (now r) ≤ keyLimit) ⌝ }
+{
+    let start = offset_at(offsets, i) as usize;
+    let end = start + (len_at(lengths, i) as usize);
+    &arena[start..end]
 }
 
 // Whether marks, offsets and lengths are of one length that a table may have, and the arena of a size that it may have.
@@ -119,11 +136,14 @@ pub fn may_ask(key: &[u8]) -> bool
     key.len() <= KEY_LIMIT
 }
 
-// Whether a key may be stored.
-pub fn may_keep(key: &[u8]) -> bool
-    ensures { λ r. ⌜ r ≡ eqb (keptOf (now (key .entry))) 0 ⌝ }
+// Whether a key may be stored, or the refusal.
+pub fn may_keep(key: &[u8]) -> Kept
+    ensures { λ r. ⌜ r ≡ keeping (now (key .entry)) ⌝ }
 {
-    key.len() <= KEY_LIMIT
+    if key.len() <= KEY_LIMIT {
+        return Kept::Fine;
+    }
+    Kept::Refused(Refusal::LongKey)
 }
 
 // The two bytes from i on as one number, low byte first.
@@ -366,6 +386,22 @@ fn insert_plan_by(found: Probed, used: usize, size: usize, length: usize) -> Ins
     }
 }
 
+// The plan of a call that stores a key that may be stored, in a table of right sizes: damage, then what its path says.
+fn plan_kept(marks: &[u8], offsets: &[u16], lengths: &[u8], arena: &[u8], key: &[u8]) -> InsertPlan
+    requires { ⌜ fitting (spansNow marks offsets lengths arena) ≡ true ⌝ }
+    ensures { λ r. ⌜ r ≡ planningKept (spansBefore marks offsets lengths arena) (now (key .entry)) ⌝ }
+{
+    let found = survey(marks, offsets, lengths, arena);
+    match found {
+        Surveyed::Used(used) => {
+            let home = slot_of_key(key, marks.len() as u64, 0) as usize;
+            let path = walk_path(marks, offsets, lengths, arena, key, home);
+            return insert_plan_by(path, used, arena.len(), key.len());
+        }
+        Surveyed::Damaged => return InsertPlan::Refused(Refusal::Damaged),
+    }
+}
+
 // The plan of a call that stores a key: its tests in order, then what its path says.
 pub fn plan_insert(
     marks: &[u8],
@@ -377,18 +413,11 @@ pub fn plan_insert(
     ensures { λ r. ⌜ r ≡ planningInsert (spansBefore marks offsets lengths arena) (now (key .entry)) ⌝ }
 {
     if fits(marks, offsets, lengths, arena) {
-        if may_keep(key) {
-            let found = survey(marks, offsets, lengths, arena);
-            match found {
-                Surveyed::Used(used) => {
-                    let home = slot_of_key(key, marks.len() as u64, 0) as usize;
-                    let path = walk_path(marks, offsets, lengths, arena, key, home);
-                    return insert_plan_by(path, used, arena.len(), key.len());
-                }
-                Surveyed::Damaged => return InsertPlan::Refused(Refusal::Damaged),
-            }
+        let kept = may_keep(key);
+        match kept {
+            Kept::Fine => return plan_kept(marks, offsets, lengths, arena, key),
+            Kept::Refused(why) => return InsertPlan::Refused(why),
         }
-        return InsertPlan::Refused(Refusal::LongKey);
     }
     InsertPlan::Refused(Refusal::Sizes)
 }

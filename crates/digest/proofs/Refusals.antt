@@ -1,4 +1,4 @@
--- When the home slot is refused: 1 exactly when the slot count is 0 or above 4,096, then 2 exactly when the key is above 255 bytes,
+-- When the home slot is refused: 1 exactly when the slot count is 0 or above 4,096, then 2 exactly when the key is above the key limit,
 -- and else it is answered. Assumes nothing.
 use mathlib.Core.Path.{_≡_}
 use mathlib.Core.Bool.{true, false}
@@ -12,7 +12,7 @@ use lib.ListN.{length}
 use Rattle.lists.proofs.Tests.{at-most}
 use Rattle.answers.specs.declared.Refusal.the-variants.{Sizes, LongKey}
 use Rattle.answers.specs.declared.Homed.the-variants.{At, Refused}
-use Rattle.digest.specs.Home.{slotsFit, homeOf, homeOfWord, homedOf, homedOfWord}
+use Rattle.digest.specs.Home.{slotsFit, keyLimit, homeOf, homeOfWord, homedOf, homedOfWord}
 
 -- A slot count that the paper allows.
 abbrev pub Fit : ℕ → Type 0
@@ -45,18 +45,18 @@ module _ (start slots : ℕ) (bytes : List ℕ) where
   unfolding homedOf
   home-unfit u = rw u
 
-  -- One that fits, and a key above 255 bytes: refusal 2.
-  pub home-long : slotsFit slots ≡ true → 255 < length bytes → homedOf start slots bytes ≡ Refused LongKey
+  -- One that fits, and a key above the key limit: refusal 2.
+  pub home-long : slotsFit slots ≡ true → keyLimit < length bytes → homedOf start slots bytes ≡ Refused LongKey
   unfolding homedOf
-  home-long f l = rw (f, lt-leb (length bytes) 255 l)
+  home-long f l = rw (f, lt-leb (length bytes) keyLimit l)
 
-  -- One that fits, and a key of at most 255 bytes: the home slot.
-  pub home-fit : slotsFit slots ≡ true → length bytes ≤ 255 → homedOf start slots bytes ≡ At (homeOf start slots bytes)
+  -- One that fits, and a key within it: the home slot.
+  pub home-fit : slotsFit slots ≡ true → length bytes ≤ keyLimit → homedOf start slots bytes ≡ At (homeOf start slots bytes)
   unfolding homedOf
-  home-fit f l = rw (f, le-leb (length bytes) 255 l)
+  home-fit f l = rw (f, le-leb (length bytes) keyLimit l)
 
-  cases : (P : Type 0) → (Unfit slots → P) → (Fit slots → 255 < length bytes → P) → (Fit slots → length bytes ≤ 255 → P) → P
-  cases P f g h = ⊎-elim (λ k. ⊎-elim (h k) (g k) (at-most (length bytes) 255)) f (slots-cases slots)
+  cases : (P : Type 0) → (Unfit slots → P) → (Fit slots → keyLimit < length bytes → P) → (Fit slots → length bytes ≤ keyLimit → P) → P
+  cases P f g h = ⊎-elim (λ k. ⊎-elim (h k) (g k) (at-most (length bytes) keyLimit)) f (slots-cases slots)
 
   -- A byte key is refused 1 exactly when the slot count is 0 or above 4,096.
   pub home-refused-1 : (homedOf start slots bytes ≡ Refused Sizes) ↔ Unfit slots
@@ -65,17 +65,17 @@ module _ (start slots : ℕ) (bytes : List ℕ) where
     λ u. home-unfit (slots-unfit slots u),
   )
 
-  -- It is refused 2 exactly when the slot count is right and the key is above 255 bytes.
-  pub home-refused-2 : (homedOf start slots bytes ≡ Refused LongKey) ↔ (Fit slots × 255 < length bytes)
+  -- It is refused 2 exactly when the slot count is right and the key is above the key limit.
+  pub home-refused-2 : (homedOf start slots bytes ≡ Refused LongKey) ↔ (Fit slots × keyLimit < length bytes)
   home-refused-2 = (
-    λ e. cases (Fit slots × 255 < length bytes) (λ u. never (cc (home-unfit (slots-unfit slots u)))) (λ f l. (f, l)) (λ f l. never (cc (home-fit (slots-fit slots f) l))),
+    λ e. cases (Fit slots × keyLimit < length bytes) (λ u. never (cc (home-unfit (slots-unfit slots u)))) (λ f l. (f, l)) (λ f l. never (cc (home-fit (slots-fit slots f) l))),
     λ (f, l). home-long (slots-fit slots f) l,
   )
 
   -- Else, and only then, it has its home slot for answer.
-  pub home-answered : (homedOf start slots bytes ≡ At (homeOf start slots bytes)) ↔ (Fit slots × length bytes ≤ 255)
+  pub home-answered : (homedOf start slots bytes ≡ At (homeOf start slots bytes)) ↔ (Fit slots × length bytes ≤ keyLimit)
   home-answered = (
-    λ e. cases (Fit slots × length bytes ≤ 255) (λ u. never (cc (home-unfit (slots-unfit slots u)))) (λ f l. never (cc (home-long (slots-fit slots f) l))) (λ f l. (f, l)),
+    λ e. cases (Fit slots × length bytes ≤ keyLimit) (λ u. never (cc (home-unfit (slots-unfit slots u)))) (λ f l. never (cc (home-long (slots-fit slots f) l))) (λ f l. (f, l)),
     λ (f, l). home-fit (slots-fit slots f) l,
   )
 

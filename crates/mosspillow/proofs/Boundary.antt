@@ -6,7 +6,7 @@ use Prim.Native.Nat.{ℕ, _%_, _≤_, _<_}
 use lib.ListN.{length}
 use Rattle.answers.specs.Numbers.{homedNumbers}
 use Rattle.digest.specs.Digest.{digestOf}
-use Rattle.digest.specs.Home.{homedOf}
+use Rattle.digest.specs.Home.{keyLimit, homedOf}
 use Rattle.digest.proofs.Bounds.{home-below}
 use Rattle.digest.proofs.Refusals.{Fit, Unfit, home-refused-1, home-refused-2, home-answered}
 use Rattle.answers.specs.Returned.{returned}
@@ -20,14 +20,14 @@ module _ (slots : ℕ) (bytes : List ℕ) where
   pub moss-home-1 : Unfit slots → handed ≡ 65537
   moss-home-1 u = rw (home-refused-1 0 slots bytes .1 u)
 
-  -- 65,538 where it is right and the key is above 255 bytes.
-  pub moss-home-2 : Fit slots → 255 < length bytes → handed ≡ 65538
+  -- 65,538 where it is right and the key is above the key limit.
+  pub moss-home-2 : Fit slots → keyLimit < length bytes → handed ≡ 65538
   moss-home-2 f l = rw (home-refused-2 0 slots bytes .1 (f, l))
 
   -- Else the digest modulo the slot count.
-  pub moss-home-slot : Fit slots → length bytes ≤ 255 → handed ≡ digestOf bytes % slots
+  pub moss-home-slot : Fit slots → length bytes ≤ keyLimit → handed ≡ digestOf bytes % slots
   moss-home-slot f l = rw (home-answered 0 slots bytes .1 (f, l))
 
   -- That slot is below the slot count, so it is never taken for a refusal.
-  pub moss-home-below : Fit slots → length bytes ≤ 255 → handed < slots
+  pub moss-home-below : Fit slots → length bytes ≤ keyLimit → handed < slots
   moss-home-below f l = rw (home-answered 0 slots bytes .1 (f, l)) (home-below 0 slots bytes (f .0))

@@ -1,35 +1,24 @@
--- `byte_slots::plan_insert` meets its contract: the tests in order, then the path.
+-- `byte_slots::plan_insert` meets its contract: the tests of sizes and key, then the rest of the plan.
+use Rattle.byte_slots.proofs.Plans.{plan-insert-unfit, plan-insert-kept, plan-insert-refused}
 use mathlib.Core.Path.{sym, _∙_}
 use borrow.Author.Needs.{needs}
-use Rattle.byte_slots.proofs.Sizes.{home-fits}
-use Rattle.byte_slots.proofs.Plans.{surveyed-within, plan-insert-unfit, plan-insert-long, plan-insert-bad, plan-insert-path}
 use Rattle.byte_slots.proofs.plan_insert.Statement.{statement}
 use Rattle.byte_slots.proofs.plan_insert.Tie as tie
 
-survey-requires : tie.Need-survey-requires
-survey-requires c κs = sym (c .before .before .before .fits2 .ensures) ∙ c .before .before .if1 .taken
-
-walk-path-requires : tie.Need-walk-path-requires
-walk-path-requires c κs = home-fits _ _ (c .before .before .before .before .before .before .before .before .fits2 .ensures) (c .before .before .before .before .before .before .before .if1 .taken) (c .slot-of-key .ensures)
-
-insert-plan-by-requires : tie.Need-insert-plan-by-requires
-insert-plan-by-requires c κs = surveyed-within _ (c .before .before .before .before .before .survey .ensures) (c .before .before .before .found .given .1)
+plan-kept-requires : tie.Need-plan-kept-requires
+plan-kept-requires c κs = sym (c .before .before .before .before .fits2 .ensures) ∙ c .before .before .before .if1 .taken
 
 returns : tie.Need-returns
-returns c = plan-insert-path _ _ (c .before .before .before .before .before .before .before .before .before .before .fits2 .ensures) (c .before .before .before .before .before .before .before .before .before .if1 .taken) (c .before .before .before .before .before .before .before .before .may-keep .ensures) (c .before .before .before .before .before .before .before .if2 .taken) (c .before .before .before .before .before .before .survey .ensures) (c .before .before .before .before .found .given .1) (c .before .before .slot-of-key .ensures) (c .before .walk-path .ensures) (c .insert-plan-by .ensures)
+returns c = plan-insert-kept _ _ (c .before .before .before .before .before .fits2 .ensures) (c .before .before .before .before .if1 .taken) (c .before .before .before .may-keep .ensures) (c .before .enum-told .given .1) (c .plan-kept .ensures)
 
 returns-2 : tie.Need-returns-2
-returns-2 c = plan-insert-bad _ _ (c .before .before .before .before .before .before .fits2 .ensures) (c .before .before .before .before .before .if1 .taken) (c .before .before .before .before .may-keep .ensures) (c .before .before .before .if2 .taken) (c .before .before .survey .ensures) (c .enum-told .given .1)
+returns-2 c = plan-insert-refused _ _ (c .before .before .before .before .before .fits2 .ensures) (c .before .before .before .before .if1 .taken) (c .before .before .before .may-keep .ensures) (c .before .kept .given .1)
 
 returns-3 : tie.Need-returns-3
-returns-3 c = plan-insert-long _ _ (c .before .before .before .fits2 .ensures) (c .before .before .if1 .taken) (c .before .may-keep .ensures) (c .if2 .left)
-
-returns-4 : tie.Need-returns-4
-returns-4 c = plan-insert-unfit _ _ (c .before .fits2 .ensures) (c .if1 .left)
+returns-3 c = plan-insert-unfit _ _ (c .before .fits2 .ensures) (c .if1 .left)
 
 pub plan-insert-spec : {M : Type 1} → statement M
 plan-insert-spec =
     tie.close
     (tie.spec
-    (λ c κs. search needs) (λ c κs. search needs) survey-requires (λ c. search needs) (λ c κs. search needs) walk-path-requires
-    insert-plan-by-requires returns (λ c. search needs) returns-2 returns-3 returns-4)
+    (λ c κs. search needs) (λ c κs. search needs) (λ c. search needs) plan-kept-requires returns (λ c. search needs) returns-2 returns-3)

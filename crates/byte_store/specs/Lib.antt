@@ -1,0 +1,2 @@
+-- The definitions of the insert rule in byte tables.
+pub mod Stores
