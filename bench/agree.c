@@ -78,7 +78,8 @@ static void some_pairs(struct table *t, unsigned count, size_t longest)
 {
     for (unsigned i = 0; i < count; i++) {
         size_t length = new_key(longest);
-        moss_byte_map_insert(SPANS(t), key, length, i);
+        moss_answer answer = moss_byte_map_insert(SPANS(t), key, length, i);
+        (void)answer;
     }
 }
 
