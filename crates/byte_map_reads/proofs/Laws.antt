@@ -15,18 +15,17 @@ use Rattle.kinds.specs.Calls.{capacityOf, lenOf, isEmptyOf, reserveOf, contains
 use Rattle.kinds.proofs.Beside.{Beside}
 use Rattle.kinds.proofs.Sizing.{capacity-unsized, len-unsized, empty-unsized, reserve-unsized, contains-unsized}
 use Rattle.byte_slots.specs.Memory.{ByteMemory}
-use Rattle.byte_slots.specs.Kinds.{maps, sets}
+use Rattle.byte_slots.specs.Kinds.{maps, sets, asSet}
 use Rattle.byte_slots.proofs.Beside.{beside-set, contains-set}
 use Rattle.byte_slots.proofs.MapSizes.{map-short}
-use Rattle.byte_slots.proofs.Sets.{setOf}
 
 module _ (m : ByteMemory values) where
   -- as many values as marks: the keys' set tells the same
   module _ (e : length (m .spans .marks) ≡ length (m .words)) where
-    pub as-set : Beside maps sets m (setOf (m .spans))
+    pub as-set : Beside maps sets m (asSet (m .spans))
     as-set = beside-set values m (eq-eqb (length (m .spans .marks)) (length (m .words)) e)
 
-    pub contains-as-set : (k : List ℕ) → containsOf sets (setOf (m .spans)) k ≡ containsOf maps m k
+    pub contains-as-set : (k : List ℕ) → containsOf sets (asSet (m .spans)) k ≡ containsOf maps m k
     contains-as-set k = contains-set values m (eq-eqb (length (m .spans .marks)) (length (m .words)) e) k
 
   -- other many: refusal 1

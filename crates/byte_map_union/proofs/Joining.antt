@@ -17,12 +17,13 @@ use Rattle.answers.specs.Numbers.{outcomeNumbers}
 use Rattle.answers.specs.Said.{doneSaid}
 use Rattle.kinds.specs.Calls.{unionOf}
 use Rattle.kinds.specs.Columns.{values}
+use Rattle.kinds.specs.Stores.{allStored}
 use Rattle.kinds.specs.Told.{told}
 use Rattle.kinds.proofs.Columns.{values-lawful}
 use Rattle.byte_slots.specs.Memory.{ByteMemory, usedOf, fitting}
 use Rattle.byte_slots.specs.Kinds.{maps}
 use Rattle.byte_slots.proofs.Places.{byte-steady}
-use Rattle.byte_store.specs.Stores.{Ready, pairsOf, allStored}
+use Rattle.byte_store.specs.Stores.{Ready, pairsOf}
 use Rattle.byte_store.proofs.Rooms.{firsts-bare, roomy-bare}
 use Rattle.byte_map_union.specs.declared.Planned.{Planned}
 use Rattle.byte_map_union.specs.declared.Planned.the-variants.{Go, Refused}

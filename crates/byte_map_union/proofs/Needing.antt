@@ -11,7 +11,8 @@ use Rattle.model.proofs.Cases.{by-bool}
 use Rattle.digest.specs.Home.{keyLimit}
 use Rattle.kinds.specs.declared.Probed.{Probed}
 use Rattle.kinds.specs.Marks.{cell}
-use Rattle.kinds.proofs.Uniting.{missedOf, weigh-idle}
+use Rattle.kinds.specs.Probing.{missedOf}
+use Rattle.kinds.proofs.Uniting.{weigh-idle}
 use Rattle.byte_slots.specs.Memory.{Spans, part, keyAt, fitting}
 use Rattle.byte_slots.specs.Marks.{markAt}
 use Rattle.byte_slots.specs.Probing.{pathOf, probing}

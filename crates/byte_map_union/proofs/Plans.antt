@@ -12,7 +12,7 @@ use Rattle.answers.specs.declared.Refusal.the-variants.{Sizes}
 use Rattle.kinds.specs.Calls.{sizedOf}
 use Rattle.kinds.specs.Columns.{values}
 use Rattle.kinds.proofs.Alike.{total-alike}
-use Rattle.kinds.proofs.Uniting.{missedOf}
+use Rattle.kinds.specs.Probing.{missedOf}
 use Rattle.byte_slots.specs.Memory.{Spans, ByteMemory, keyAt, slotsOf, bare, fullDamage}
 use Rattle.byte_slots.specs.Marks.{markAt}
 use Rattle.byte_slots.specs.Kinds.{maps}

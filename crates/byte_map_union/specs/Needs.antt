@@ -10,7 +10,7 @@ use Rattle.answers.specs.Refusals.{numberOf}
 use Rattle.kinds.specs.declared.Probed.{Probed}
 use Rattle.kinds.specs.Columns.{values}
 use Rattle.kinds.specs.Marks.{counted}
-use Rattle.kinds.proofs.Uniting.{missedOf}
+use Rattle.kinds.specs.Probing.{missedOf}
 use Rattle.byte_slots.specs.Memory.{Spans, ByteMemory, bare, usedOf, fullDamage}
 use Rattle.byte_slots.specs.Kinds.{maps}
 use Rattle.byte_slots.specs.Probing.{pathOf}

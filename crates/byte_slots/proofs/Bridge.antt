@@ -21,18 +21,18 @@ use Rattle.kinds.specs.declared.Scanned.{Scanned}
 use Rattle.kinds.specs.declared.Scanned.the-variants as scanned
 use Rattle.kinds.specs.Columns.{Column}
 use Rattle.kinds.specs.Marks.{cellsOf}
-use Rattle.kinds.specs.Probing.{along}
+use Rattle.kinds.specs.Probing.{along, missedOf}
 use Rattle.kinds.proofs.Alike.{total-alike}
 use Rattle.kinds.proofs.Bridge as kinds
 use Rattle.kinds.proofs.Bridge.{seenOf, spotIn, path-cells, seen-path, spot-path}
-use Rattle.kinds.proofs.Uniting.{missedOf, ruleOf, lacking-probed, rule-probed}
+use Rattle.kinds.proofs.Uniting.{ruleOf, lacking-probed, rule-probed}
 use Rattle.byte_slots.specs.declared.Kept.{Kept}
 use Rattle.byte_slots.specs.declared.Kept.the-variants as kept
 use Rattle.byte_slots.specs.declared.InsertPlan.{InsertPlan}
 use Rattle.byte_slots.specs.declared.InsertPlan.the-variants as insertPlan
 use Rattle.byte_slots.specs.declared.RemovePlan.{RemovePlan}
 use Rattle.byte_slots.specs.declared.RemovePlan.the-variants as removePlan
-use Rattle.byte_slots.specs.Memory.{Spans, ByteMemory, byteStore, keyAt, usedOf, fullDamage, fitting, askedOf, keeping, keptNumber, keptOf}
+use Rattle.byte_slots.specs.Memory.{ByteMemory, byteStore, keyAt, usedOf, fullDamage, fitting, askedOf, keeping, keptNumber, keptOf}
 use Rattle.byte_slots.specs.Marks.{markAt}
 use Rattle.byte_slots.specs.Planning.{insertPlanBy, roomFor, planningKept, keptPlan, planningInsert, removePlanBy, planningRemove}
 use Rattle.byte_slots.specs.Probing.{pathFrom, pathOf, probing}

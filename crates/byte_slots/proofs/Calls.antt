@@ -13,14 +13,13 @@ use Rattle.kinds.proofs.Bridge.{seenOf}
 use Rattle.byte_slots.specs.declared.InsertPlan.{InsertPlan}
 use Rattle.byte_slots.specs.declared.RemovePlan.{RemovePlan}
 use Rattle.byte_slots.specs.Memory.{Spans, ByteMemory, usedOf, offsetAt, lengthAt}
-use Rattle.byte_slots.specs.Kinds.{maps, sets, insertOf, setInsertOf, setGetOf}
+use Rattle.byte_slots.specs.Kinds.{maps, sets, insertOf, setInsertOf, setGetOf, asSet}
 use Rattle.byte_slots.specs.Planning.{planningInsert, planningMapInsert, planningRemove, planningMapRemove}
 use Rattle.byte_slots.specs.Probing.{probing}
 use Rattle.byte_slots.specs.Seeking.{probingMap}
 use Rattle.byte_slots.proofs.Bridge.{spotOf, lostOf, get-probing, remove-planning, entry-planning}
 use Rattle.byte_slots.proofs.Planning.{entry-planned, remove-planned}
 use Rattle.byte_slots.proofs.Seeking.{get-probed}
-use Rattle.byte_slots.proofs.Sets.{setOf}
 
 -- a map's calls
 module _ (m : ByteMemory values) (k : List ℕ) where
@@ -44,18 +43,18 @@ module _ (m : ByteMemory values) (k : List ℕ) where
 -- a set's calls
 module _ (s : Spans) (k : List ℕ) where
   module _ {r : Probed} (p : r ≡ probing s k) {x : Probed} (q : r ≡ x) where
-    pub set-get-says : spannedSaid (offsetAt s) (lengthAt s) (seenOf {W = Unit {0}} (λ i. tt) x) ≡ setGetOf (setOf s) k
+    pub set-get-says : spannedSaid (offsetAt s) (lengthAt s) (seenOf {W = Unit {0}} (λ i. tt) x) ≡ setGetOf (asSet s) k
     unfolding setGetOf
-    set-get-says = rw (get-probing nothing (setOf s) k refl, ← p, q)
+    set-get-says = rw (get-probing nothing (asSet s) k refl, ← p, q)
 
-    pub contains-says : containedSaid (seenOf {W = Unit {0}} (λ i. tt) x) ≡ containsOf sets (setOf s) k
+    pub contains-says : containedSaid (seenOf {W = Unit {0}} (λ i. tt) x) ≡ containsOf sets (asSet s) k
     unfolding containsOf
-    contains-says = rw (get-probing nothing (setOf s) k refl, ← p, q)
+    contains-says = rw (get-probing nothing (asSet s) k refl, ← p, q)
 
-  pub set-remove-says : {r : RemovePlan} → r ≡ planningRemove s k → {x : RemovePlan} → r ≡ x → told (droppedSaid (lostOf {W = Unit {0}} (λ i. tt) x)) (removedBy sets (setOf s) (lostOf (λ i. tt) x)) ≡ droppedOf sets (setOf s) k
+  pub set-remove-says : {r : RemovePlan} → r ≡ planningRemove s k → {x : RemovePlan} → r ≡ x → told (droppedSaid (lostOf {W = Unit {0}} (λ i. tt) x)) (removedBy sets (asSet s) (lostOf (λ i. tt) x)) ≡ droppedOf sets (asSet s) k
   unfolding droppedOf after-remove
-  set-remove-says p q = rw (remove-planning nothing (setOf s) k refl, ← p, q)
+  set-remove-says p q = rw (remove-planning nothing (asSet s) k refl, ← p, q)
 
-  pub set-insert-says : {r : InsertPlan} → r ≡ planningInsert s k → {x : InsertPlan} → r ≡ x → told (joinedSaid (usedOf s) (spotOf {W = Unit {0}} (λ i. tt) x)) (storedBy sets (setOf s) k tt (spotOf (λ i. tt) x)) ≡ setInsertOf (setOf s) k
+  pub set-insert-says : {r : InsertPlan} → r ≡ planningInsert s k → {x : InsertPlan} → r ≡ x → told (joinedSaid (usedOf s) (spotOf {W = Unit {0}} (λ i. tt) x)) (storedBy sets (asSet s) k tt (spotOf (λ i. tt) x)) ≡ setInsertOf (asSet s) k
   unfolding setInsertOf after-insert
-  set-insert-says p q = rw (entry-planning nothing (setOf s) k refl, ← p, q)
+  set-insert-says p q = rw (entry-planning nothing (asSet s) k refl, ← p, q)

@@ -23,12 +23,13 @@ use Rattle.kinds.specs.Columns.{Column, values, nothing}
 use Rattle.kinds.specs.Stepping.{wayOf, aheadBy}
 use Rattle.kinds.proofs.Stepping as kinds
 use Rattle.byte_slots.specs.Memory.{Spans, ByteMemory, byteStore, keyAt, offsetAt, lengthAt, fitting}
+use Rattle.byte_slots.specs.Kinds.{asSet}
 use Rattle.byte_slots.specs.Marks.{markAt}
 use Rattle.byte_slots.specs.Scanning.{nexting}
 use Rattle.byte_slots.specs.Steps.{aheadIn, setAhead, mapAhead}
 use Rattle.byte_slots.proofs.Bridge.{sized-short}
 use Rattle.byte_slots.proofs.Marks.{slots-cells}
-use Rattle.byte_slots.proofs.Sets.{setOf, fit, unfit}
+use Rattle.byte_slots.proofs.Sets.{fit, unfit}
 use Rattle.byte_slots.proofs.Sizes.{fitting-says}
 
 module _ {W : Type 0} (C : Column W) (m : ByteMemory C) (at budget : ℕ) {r : Ahead} (p : r ≡ aheadIn C m at budget) where
@@ -82,20 +83,20 @@ module _ (s : Spans) (at budget : ℕ) where
   module _ {b : Bool} (f : b ≡ fitting s) where
     pub ahead-unfit : b ≡ false → Refused Sizes ≡ setAhead s at budget
     unfolding aheadIn
-    ahead-unfit e = kinds.ahead-unsized (byteStore nothing .sized (setOf s)) (markAt s) (length (s .marks)) at budget (unfit s f e)
+    ahead-unfit e = kinds.ahead-unsized (byteStore nothing .sized (asSet s)) (markAt s) (length (s .marks)) at budget (unfit s f e)
 
     module _ (e : b ≡ true) {t : Stretch} (p : t ≡ wayOf (length (s .marks)) at budget) where
       pub ahead-done : t ≡ stretch.Done → Done ≡ setAhead s at budget
       unfolding aheadIn
-      ahead-done q = kinds.ahead-done (byteStore nothing .sized (setOf s)) (markAt s) (length (s .marks)) at budget (fit s f e) p q
+      ahead-done q = kinds.ahead-done (byteStore nothing .sized (asSet s)) (markAt s) (length (s .marks)) at budget (fit s f e) p q
 
       pub ahead-refused : {x : Refusal} → t ≡ stretch.Refused x → Refused x ≡ setAhead s at budget
       unfolding aheadIn
-      ahead-refused q = kinds.ahead-refused (byteStore nothing .sized (setOf s)) (markAt s) (length (s .marks)) at budget (fit s f e) p q
+      ahead-refused q = kinds.ahead-refused (byteStore nothing .sized (asSet s)) (markAt s) (length (s .marks)) at budget (fit s f e) p q
 
       pub ahead-upto : {z : ℕ} {n : Next} {r : Ahead} → t ≡ stretch.Upto z → n ≡ nexting s at z → r ≡ aheadBy z n → r ≡ setAhead s at budget
       unfolding aheadIn nexting
-      ahead-upto q g h = kinds.ahead-upto (byteStore nothing .sized (setOf s)) (markAt s) (length (s .marks)) at budget (fit s f e) p q g h
+      ahead-upto q g h = kinds.ahead-upto (byteStore nothing .sized (asSet s)) (markAt s) (length (s .marks)) at budget (fit s f e) p q g h
 
   -- values beside them: as many, or refusal 1
   module _ (vs : List ℕ) where

@@ -8,7 +8,7 @@ use Rattle.answers.specs.declared.Numbers.{Numbers}
 use Rattle.answers.specs.Said.{storedSaid, joinedSaid, spannedSaid, spanHanded, spanOnlyHanded, stepSaid}
 use Rattle.kinds.specs.Columns.{values, nothing}
 use Rattle.kinds.specs.Told.{ToldAndLeft, told}
-use Rattle.byte_slots.specs.Memory.{ByteMemory, byteStore, usedOf, memory, offsetAt, lengthAt}
+use Rattle.byte_slots.specs.Memory.{Spans, ByteMemory, byteStore, usedOf, memory, offsetAt, lengthAt}
 
 -- A byte map as a store, and its lent lists.
 abbrev pub maps : Store (List ℕ) ℕ
@@ -23,6 +23,10 @@ sets = byteStore nothing
 
 abbrev pub setMemory : List ℕ → List ℕ → List ℕ → List ℕ → ByteMemory nothing
 setMemory marks offsets lengths arena = memory nothing marks offsets lengths arena tt
+
+-- The lists of the keys as those of a set.
+abbrev pub asSet : Spans → ByteMemory nothing
+asSet s = record { spans = s; words = tt }
 
 -- A byte map's insert: a fresh key goes to the offset `used`.
 unfoldable pub insertOf : ByteMemory values → List ℕ → ℕ → ToldAndLeft (ByteMemory values)

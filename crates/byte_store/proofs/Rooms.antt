@@ -8,16 +8,15 @@ use Rattle.model.specs.Slots.{pairOf, pairs}
 use Rattle.model.specs.Finite.{firsts}
 use Rattle.model.specs.Calls.{lacking}
 use Rattle.model.proofs.Cases.{both}
-use Rattle.model.proofs.Running.{Roomy}
+use Rattle.model.specs.Running.{Roomy}
 use Rattle.kinds.specs.Columns.{Column, nothing}
 use Rattle.kinds.specs.Marks.{cell}
 use Rattle.byte_slots.specs.Memory.{Spans, ByteMemory, byteStore, slotsOf, bare, fitting, keyAt}
 use Rattle.byte_slots.specs.Marks.{markAt}
-use Rattle.byte_slots.specs.Kinds.{sets}
+use Rattle.byte_slots.specs.Kinds.{sets, asSet}
 use Rattle.byte_slots.proofs.Beside.{beside-set}
 use Rattle.byte_slots.proofs.Bridge.{used-is, lacking-is}
 use Rattle.byte_slots.proofs.Marks.{slot-cell}
-use Rattle.byte_slots.proofs.Sets.{setOf}
 use Rattle.byte_store.specs.Stores.{pairsOf}
 
 -- the keys of the slots are those of the slots alone
@@ -39,11 +38,11 @@ firsts-bare s read zero = refl
 firsts-bare s read (suc n) = rw (firsts-append (pairs (slotsOf s read) n) (pairOf (slotsOf s read n)), firsts-append (pairs (bare s) n) (pairOf (bare s n)), slot-cell s read n, slot-cell s (λ i. tt {0}) n, first-bare (markAt s n) (keyAt s n) (read n), firsts-bare s read n)
 
 module _ {W : Type 0} (C : Column W) (m : ByteMemory C) where
-  lacks-alike : (g : List ℕ → ℕ) → _≡_ {A = List ℕ → ℕ} (λ k. cond (lacking (byteStore C) m k) (g k) 0) (λ k. cond (lacking sets (setOf (m .spans)) k) (g k) 0)
-  lacks-alike g = fun-ext (λ k. rw (lacking-is C m k, lacking-is nothing (setOf (m .spans)) k))
+  lacks-alike : (g : List ℕ → ℕ) → _≡_ {A = List ℕ → ℕ} (λ k. cond (lacking (byteStore C) m k) (g k) 0) (λ k. cond (lacking sets (asSet (m .spans)) k) (g k) 0)
+  lacks-alike g = fun-ext (λ k. rw (lacking-is C m k, lacking-is nothing (asSet (m .spans)) k))
 
   -- room for pairs is room for their keys
-  pub roomy-bare : (ps : List (List ℕ × W)) (ks : List (List ℕ × Unit {0})) → firsts ps ≡ firsts ks → Roomy (byteStore C) m ps → Roomy sets (setOf (m .spans)) ks
+  pub roomy-bare : (ps : List (List ℕ × W)) (ks : List (List ℕ × Unit {0})) → firsts ps ≡ firsts ks → Roomy (byteStore C) m ps → Roomy sets (asSet (m .spans)) ks
   roomy-bare ps ks e y =
       let (f, l) = both (fitting (m .spans)) (C .long (m .words) (length (m .spans .marks))) (y .sized) in
       let b = beside-set C m l in
@@ -52,5 +51,5 @@ module _ {W : Type 0} (C : Column W) (m : ByteMemory C) where
         unharmed = y .unharmed;
         unhurt = sym (b .damage) ∙ y .unhurt;
         slots-left = rw (← b .lives, ← lacks-alike (λ k. 1), ← e) (y .slots-left);
-        bytes-left = rw (used-is nothing (setOf (m .spans)), ← used-is C m, ← lacks-alike length, ← e) (y .bytes-left);
+        bytes-left = rw (used-is nothing (asSet (m .spans)), ← used-is C m, ← lacks-alike length, ← e) (y .bytes-left);
       }

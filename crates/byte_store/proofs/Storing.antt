@@ -18,20 +18,19 @@ use Rattle.answers.specs.declared.Refusal.{Refusal}
 use Rattle.kinds.specs.declared.Probed.{Probed}
 use Rattle.kinds.specs.declared.Probed.the-variants.{Hit, Free, Full, Refused}
 use Rattle.kinds.specs.Columns.{Column, values, nothing}
-use Rattle.kinds.specs.Probing.{along}
+use Rattle.kinds.specs.Probing.{along, slotBy}
 use Rattle.kinds.proofs.Columns.{nothing-lawful}
 use Rattle.kinds.proofs.Uniting.{ruleOf}
 use Rattle.byte_slots.specs.Memory.{Spans, ByteMemory, byteStore, bare, usedOf, filled, fitting}
 use Rattle.byte_slots.specs.Probing.{pathOf, probing}
-use Rattle.byte_slots.specs.Kinds.{maps, sets}
+use Rattle.byte_slots.specs.Kinds.{maps, sets, asSet}
 use Rattle.byte_slots.proofs.Bridge.{path-is, used-is, rule-is}
 use Rattle.byte_slots.proofs.Held.{free-says, unharmed-says}
 use Rattle.byte_slots.proofs.Places.{byte-steady}
-use Rattle.byte_slots.proofs.Sets.{setOf}
 use Rattle.byte_slots.proofs.Sizes.{fitting-says, probing-short}
 use Rattle.byte_slots.proofs.Writes.{fill-used}
 use Rattle.byte_arena.specs.Needs.{Fillable}
-use Rattle.byte_store.specs.Stores.{Storable, slotBy}
+use Rattle.byte_store.specs.Stores.{Storable}
 
 -- Byte sets are steady.
 pub steady : Steady sets
@@ -42,14 +41,14 @@ module _ (s : Spans) (k : List ℕ) {u : ℕ} (y : Storable s u k) where
   fits = both (fitting s) true (y .ready .room .sized) .0
 
   -- a free slot that the path found: one of the table's, free, and there are the key's bytes
-  free-along : (x : Find (Unit {0})) → path sets (setOf s) k ≡ x → {i e : ℕ} → along (length (s .marks)) (homeOf 0 (length (s .marks)) k) x ≡ Free i e → (i < length (s .marks)) × (frees (bare s i) ≡ true) × (used sets (setOf s) + length k ≤ length (s .arena))
+  free-along : (x : Find (Unit {0})) → path sets (asSet s) k ≡ x → {i e : ℕ} → along (length (s .marks)) (homeOf 0 (length (s .marks)) k) x ≡ Free i e → (i < length (s .marks)) × (frees (bare s i) ≡ true) × (used sets (asSet s) + length k ≤ length (s .arena))
   unfolding along slotAt
   free-along (hit n w) q c = clash cc
   free-along (miss e′ f) q {i} {e} c = by-lt f (length (s .marks))
       (λ l t.
-      let z : slotAt sets (setOf s) k f ≡ i = cc (rw t at c) in
-      let (a, b) = free-slot sets steady (setOf s) k tt [] (y .ready .room) e′ f q in
-      rw (← z) (a, b, bytes-there sets steady (setOf s) k tt [] (y .ready .room) e′ f q))
+      let z : slotAt sets (asSet s) k f ≡ i = cc (rw t at c) in
+      let (a, b) = free-slot sets steady (asSet s) k tt [] (y .ready .room) e′ f q in
+      rw (← z) (a, b, bytes-there sets steady (asSet s) k tt [] (y .ready .room) e′ f q))
       (λ l t. clash (cc (rw t at c)))
   free-along damage q c = clash cc
 
@@ -57,17 +56,17 @@ module _ (s : Spans) (k : List ℕ) {u : ℕ} (y : Storable s u k) where
     path-probed : p ≡ pathOf s k
     path-probed = e ∙ probing-short s k fits (y .short)
 
-    found : rule sets (setOf s) k tt ≡ ruleOf sets (setOf s) k tt p
-    found = rw path-probed (rule-is nothing (setOf s) k tt)
+    found : rule sets (asSet s) k tt ≡ ruleOf sets (asSet s) k tt p
+    found = rw path-probed (rule-is nothing (asSet s) k tt)
 
     -- the key's slot
-    pub store-hit : {i n : ℕ} → p ≡ Hit i n → (setOf s ≡ rule sets (setOf s) k tt) × (i ≡ slotBy (length (s .marks)) (probing s k)) × (u ≡ usedOf s)
+    pub store-hit : {i n : ℕ} → p ≡ Hit i n → (asSet s ≡ rule sets (asSet s) k tt) × (i ≡ slotBy (length (s .marks)) (probing s k)) × (u ≡ usedOf s)
     unfolding slotBy
     store-hit q = (rw (found, q), rw (← e, q), y .ready .used)
 
     module _ {i n : ℕ} (q : p ≡ Free i n) where
       free-facts : (i < length (s .marks)) × (frees (bare s i) ≡ true) × (usedOf s + length k ≤ length (s .arena))
-      free-facts = let (a, b, c) = free-along (path sets (setOf s) k) refl (path-is nothing (setOf s) k ∙ sym path-probed ∙ q) in (a, b, omega (arith, used-is nothing (setOf s)))
+      free-facts = let (a, b, c) = free-along (path sets (asSet s) k) refl (path-is nothing (asSet s) k ∙ sym path-probed ∙ q) in (a, b, omega (arith, used-is nothing (asSet s)))
 
       -- a free slot is one to fill
       pub free-fillable : Fillable s i u k
@@ -87,7 +86,7 @@ module _ (s : Spans) (k : List ℕ) {u : ℕ} (y : Storable s u k) where
       free-small = omega (arith, free-fillable .room, free-fillable .size)
 
       -- it takes the key
-      pub store-free : {t : Spans} → t ≡ filled s i k → (setOf t ≡ rule sets (setOf s) k tt) × (i ≡ slotBy (length (s .marks)) (probing s k)) × (u + length k ≡ usedOf t)
+      pub store-free : {t : Spans} → t ≡ filled s i k → (asSet t ≡ rule sets (asSet s) k tt) × (i ≡ slotBy (length (s .marks)) (probing s k)) × (u + length k ≡ usedOf t)
       unfolding slotBy
       store-free {t} d =
           let (a, b, c) = free-facts in
@@ -96,23 +95,23 @@ module _ (s : Spans) (k : List ℕ) {u : ℕ} (y : Storable s u k) where
           rw d (rw (found, q), rw (← e, q), omega (arith, y .ready .used, w))
 
     -- any other end leaves all
-    pub store-full : {n : ℕ} → p ≡ Full n → (setOf s ≡ rule sets (setOf s) k tt) × (length (s .marks) ≡ slotBy (length (s .marks)) (probing s k)) × (u ≡ usedOf s)
+    pub store-full : {n : ℕ} → p ≡ Full n → (asSet s ≡ rule sets (asSet s) k tt) × (length (s .marks) ≡ slotBy (length (s .marks)) (probing s k)) × (u ≡ usedOf s)
     unfolding slotBy
     store-full q = (rw (found, q), rw (← e, q), y .ready .used)
 
-    pub store-refused : {x : Refusal} → p ≡ Refused x → (setOf s ≡ rule sets (setOf s) k tt) × (length (s .marks) ≡ slotBy (length (s .marks)) (probing s k)) × (u ≡ usedOf s)
+    pub store-refused : {x : Refusal} → p ≡ Refused x → (asSet s ≡ rule sets (asSet s) k tt) × (length (s .marks) ≡ slotBy (length (s .marks)) (probing s k)) × (u ≡ usedOf s)
     unfolding slotBy
     store-refused q = (rw (found, q), rw (← e, q), y .ready .used)
 
 -- the keys of a table with a column change as a set's
-keys-found : {W : Type 0} (C : Column W) (m : ByteMemory C) (k : List ℕ) (v : W) (p : Probed) → setOf (ruleOf (byteStore C) m k v p .spans) ≡ ruleOf sets (setOf (m .spans)) k tt p
+keys-found : {W : Type 0} (C : Column W) (m : ByteMemory C) (k : List ℕ) (v : W) (p : Probed) → asSet (ruleOf (byteStore C) m k v p .spans) ≡ ruleOf sets (asSet (m .spans)) k tt p
 keys-found C m k v (Hit i e) = refl
 keys-found C m k v (Free i e) = refl
 keys-found C m k v (Full e) = refl
 keys-found C m k v (Refused x) = refl
 
-pub rule-keys : {W : Type 0} (C : Column W) (m : ByteMemory C) (k : List ℕ) (v : W) → setOf (rule (byteStore C) m k v .spans) ≡ rule sets (setOf (m .spans)) k tt
-rule-keys C m k v = rw (rule-is C m k v, rule-is nothing (setOf (m .spans)) k tt) (keys-found C m k v (pathOf (m .spans) k))
+pub rule-keys : {W : Type 0} (C : Column W) (m : ByteMemory C) (k : List ℕ) (v : W) → asSet (rule (byteStore C) m k v .spans) ≡ rule sets (asSet (m .spans)) k tt
+rule-keys C m k v = rw (rule-is C m k v, rule-is nothing (asSet (m .spans)) k tt) (keys-found C m k v (pathOf (m .spans) k))
 
 -- and in a map the key's slot has the value
 map-found : (m : ByteMemory values) (k : List ℕ) (v : ℕ) → length (m .words) ≡ length (m .spans .marks) → (p : Probed) → record { spans = ruleOf maps m k v p .spans; words = set (m .words) (slotBy (length (m .spans .marks)) p) v } ≡ ruleOf maps m k v p
@@ -122,7 +121,7 @@ map-found m k v l (Free i e) = refl
 map-found m k v l (Full e) = ap (λ ws. record { spans = m .spans; words = ws }) (set-out (m .words) (length (m .spans .marks)) v (omega arith))
 map-found m k v l (Refused x) = ap (λ ws. record { spans = m .spans; words = ws }) (set-out (m .words) (length (m .spans .marks)) v (omega arith))
 
-module _ (m : ByteMemory values) (k : List ℕ) (v : ℕ) {u : ℕ} (y : Storable (m .spans) u k) (long : length (m .words) ≡ length (m .spans .marks)) {t : Spans} {i a : ℕ} (e : (setOf t ≡ rule sets (setOf (m .spans)) k tt) × (i ≡ slotBy (length (m .spans .marks)) (probing (m .spans) k)) × (a ≡ usedOf t)) where
+module _ (m : ByteMemory values) (k : List ℕ) (v : ℕ) {u : ℕ} (y : Storable (m .spans) u k) (long : length (m .words) ≡ length (m .spans .marks)) {t : Spans} {i a : ℕ} (e : (asSet t ≡ rule sets (asSet (m .spans)) k tt) × (i ≡ slotBy (length (m .spans .marks)) (probing (m .spans) k)) × (a ≡ usedOf t)) where
   pub map-store-there : (record { spans = t; words = set (m .words) i v } ≡ rule maps m k v) × (a ≡ usedOf t)
   map-store-there =
       let z : t ≡ rule maps m k v .spans = ap (λ n. n .spans) (e .0 ∙ sym (rule-keys values m k v)) in

@@ -4,13 +4,15 @@ ghost use mathlib.Core.Bool.{true};
 ghost use Prim.Native.Nat.{_<_};
 ghost use lib.ListN.{length};
 ghost use Rattle.model.specs.Calls.{rule};
+ghost use Rattle.kinds.specs.Probing.{slotBy};
+ghost use Rattle.kinds.specs.Stores.{slotIn, slotStored, allStored};
 ghost use Rattle.byte_slots.specs.Memory.{spansNow, spansBefore, spansAfter, fitting, usedOf};
 ghost use Rattle.byte_slots.specs.Kinds.{maps, sets};
 ghost use Rattle.byte_slots.specs.Maps.{before, after};
 ghost use Rattle.byte_slots.specs.Sets.{before as setBefore, after as setAfter};
 ghost use Rattle.byte_slots.specs.Probing.{probing};
 ghost use Rattle.byte_arena.specs.Needs.{Aligned};
-ghost use Rattle.byte_store.specs.Stores.{Ready, Storable, pairAt, pairsOf, slotBy, slotStored, allStored};
+ghost use Rattle.byte_store.specs.Stores.{Ready, Storable, pairAt, pairsOf};
 use byte_arena::fill;
 use byte_slots::key_at;
 use byte_slots::mark_at;
@@ -70,7 +72,7 @@ pub fn store_slot(
     used: usize,
 ) -> usize
     requires { ⌜ Ready (spansNow marks offsets lengths arena) used (pairAt (spansNow «right_marks» «right_offsets» «right_lengths» «right_arena») i) × Aligned (spansNow «right_marks» «right_offsets» «right_lengths» «right_arena») i ⌝ }
-    ensures { λ r. ⌜ (setAfter marks offsets lengths arena ≡ slotStored sets (setBefore marks offsets lengths arena) (setBefore «right_marks» «right_offsets» «right_lengths» «right_arena») i) × (r ≡ usedOf (spansAfter marks offsets lengths arena)) ⌝ }
+    ensures { λ r. ⌜ (setAfter marks offsets lengths arena ≡ slotStored sets (setBefore marks offsets lengths arena) (slotIn sets (setBefore «right_marks» «right_offsets» «right_lengths» «right_arena») i)) × (r ≡ usedOf (spansAfter marks offsets lengths arena)) ⌝ }
 {
     if mark_at(right_marks, right_offsets, right_lengths, right_arena, i) == 1 {
         let key = key_at(right_offsets, right_lengths, right_arena, i);
@@ -152,7 +154,7 @@ pub fn map_store_slot(
     used: usize,
 ) -> usize
     requires { ⌜ Ready (spansNow marks offsets lengths arena) used (pairAt (spansNow «right_marks» «right_offsets» «right_lengths» «right_arena») i) × Aligned (spansNow «right_marks» «right_offsets» «right_lengths» «right_arena») i × (i < length (now «right_values»)) × (length (now values) ≡ length (now marks)) ⌝ }
-    ensures { λ r. ⌜ (after marks offsets lengths values arena ≡ slotStored maps (before marks offsets lengths values arena) (before «right_marks» «right_offsets» «right_lengths» «right_values» «right_arena») i) × (r ≡ usedOf (spansAfter marks offsets lengths arena)) ⌝ }
+    ensures { λ r. ⌜ (after marks offsets lengths values arena ≡ slotStored maps (before marks offsets lengths values arena) (slotIn maps (before «right_marks» «right_offsets» «right_lengths» «right_values» «right_arena») i)) × (r ≡ usedOf (spansAfter marks offsets lengths arena)) ⌝ }
 {
     if mark_at(right_marks, right_offsets, right_lengths, right_arena, i) == 1 {
         let key = key_at(right_offsets, right_lengths, right_arena, i);

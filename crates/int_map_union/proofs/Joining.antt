@@ -25,11 +25,11 @@ use Rattle.int_slots.specs.Memory.{IntMemory, memory}
 use Rattle.int_slots.specs.Scanning.{scanning}
 use Rattle.int_slots.proofs.Bridge.{scan-bad, scan-live}
 use Rattle.int_slots.specs.Maps.{maps}
+use Rattle.kinds.specs.Stores.{allStored}
 use Rattle.kinds.specs.Told.{told}
 use Rattle.int_map_union.specs.Calls.{planOf, tableNeeds}
 use Rattle.kinds.specs.Calls.{sizedOf, unionOf}
 use Rattle.int_slots.proofs.MapSizes.{same-long}
-use Rattle.int_store.specs.Stores.{allStored}
 
 -- keys take no arena bytes
 weightless : (g : ℕ → ℕ) → ((k : ℕ) → g k ≡ 0) → (t : Table ℕ ℕ) (n : ℕ) → total g t n ≡ 0

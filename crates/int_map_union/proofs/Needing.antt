@@ -20,7 +20,8 @@ use Rattle.int_slots.specs.Seeking.{probingMap}
 use Rattle.int_slots.specs.Maps.{maps}
 use Rattle.int_map_union.specs.Calls.{slotNeeds, tableNeeds}
 use Rattle.int_slots.proofs.Seeking.{path-probed}
-use Rattle.kinds.proofs.Uniting.{missedOf, lacking-probed, weigh-idle}
+use Rattle.kinds.specs.Probing.{missedOf}
+use Rattle.kinds.proofs.Uniting.{lacking-probed, weigh-idle}
 
 -- a slot that is not live needs nothing
 pub slot-needs-idle : (l : IntMemory values) (mark key : ℕ) → (mark ≡ 1 → ⊥) → 0 ≡ slotNeeds l mark key

@@ -1,14 +1,14 @@
 -- The insert rule with no test: for one key by how its probing ended, and for the right's slots one by one.
-use Prim.Native.Nat.{ℕ, zero, suc, _+_, _≤_, _<_}
+use Prim.Native.Nat.{ℕ, _+_, _≤_, _<_}
 use mathlib.Core.Bool.{true}
 use mathlib.Core.List.{List}
 use mathlib.Core.Path.{_≡_, refl, sym, _∙_, ap}
 use native.Mathlib.Numerals.{add-one}
 use native.Mathlib.Omega.{arith}
 use lib.Dec.{ltb}
-use lib.ListN.{length, getD, set, length-set}
+use lib.ListN.{length, set, length-set}
 use lib.Seq.{set-out}
-use Rattle.model.specs.Slots.{pairOf, pairs}
+use Rattle.model.specs.Slots.{Slot, never, freed, damaged, live, pairOf}
 use Rattle.model.specs.Path.{Find, hit, miss, damage}
 use Rattle.model.specs.Store.{path, slotAt}
 use Rattle.model.specs.Calls.{ruleBy, rule, storeAll}
@@ -17,17 +17,17 @@ use Rattle.answers.specs.declared.Refusal.{Refusal}
 use Rattle.kinds.specs.declared.Probed.{Probed}
 use Rattle.kinds.specs.declared.Probed.the-variants.{Hit, Free, Full, Refused}
 use Rattle.kinds.specs.Columns.{Column, values, nothing}
-use Rattle.kinds.specs.Marks.{cell}
 use Rattle.kinds.specs.Calls.{sizedOf}
+use Rattle.kinds.specs.Probing.{slotBy}
+use Rattle.kinds.specs.Stores.{slotIn, slotStored, allStored}
 use Rattle.kinds.proofs.Columns.{LawfulColumn}
-use Rattle.kinds.proofs.Uniting.{ruleOf, rule-probed, store-append, pair-idle}
+use Rattle.kinds.proofs.Uniting.{ruleOf, rule-probed, stored-none, stored-last}
 use Rattle.int_slots.specs.Memory.{IntMemory, intStore, memory, fitting}
 use Rattle.int_slots.specs.Maps.{maps}
 use Rattle.int_slots.specs.Sets.{sets, memory as setMemory}
 use Rattle.int_slots.specs.Probing.{probing}
 use Rattle.int_slots.proofs.Bridge.{sized-is, probing-path}
 use Rattle.int_slots.proofs.MapSizes.{same-long}
-use Rattle.int_store.specs.Stores.{slotBy, slotStored, allStored}
 
 -- the rule with no test, by what the probing found
 rule-found : {W : Type 0} (C : Column W) (m : IntMemory C) (k : ℕ) (v : W) → sizedOf (intStore C) m ≡ true → rule (intStore C) m k v ≡ ruleOf (intStore C) m k v (probing (m .marks) (m .keys) k)
@@ -84,41 +84,24 @@ module _ (marks keys vs : List ℕ) (f : sizedOf maps (memory marks keys vs) ≡
     pub map-store-none : length vs ≤ s → memory (n .marks) (n .keys) vs ≡ rule maps (memory marks keys vs) k v
     map-store-none h = ap (λ ws. memory (n .marks) (n .keys) ws) (sym (set-out vs s v h)) ∙ map-store-there
 
-module _ {W : Type 0} (C : Column W) where
-  module _ (l : IntMemory C) (mark k : ℕ) (v : W) where
-    -- a live slot's pair goes in by the rule
-    pub slot-live : {m : IntMemory C} → mark ≡ 1 → m ≡ rule (intStore C) l k v → m ≡ slotStored (intStore C) l mark k v
-    unfolding slotStored storeAll pairOf cell
-    slot-live e p = rw e p
+module _ {W : Type 0} (C : Column W) (O : LawfulColumn C) where
+  -- the rule leaves the sizes
+  rule-sized : (m : IntMemory C) (k : ℕ) (v : W) (x : Find W) → intStore C .sized (ruleBy (intStore C) m k v x) ≡ intStore C .sized m
+  unfolding ruleBy
+  rule-sized m k v (hit n w) = rw (O .long-write (m .words) (length (m .marks)) (slotAt (intStore C) m k n) v)
+  rule-sized m k v (miss e f) =
+      let i = slotAt (intStore C) m k f in
+      by-bool (ltb f (length (m .marks)))
+      (λ t. rw (t, length-set (m .marks) i 1, length-set (m .keys) i k, O .long-write (m .words) (length (m .marks)) i v))
+      (λ t. rw t)
+  rule-sized m k v damage = refl
 
-    -- another slot stores nothing
-    pub slot-idle : (mark ≡ 1 → ⊥) → l ≡ slotStored (intStore C) l mark k v
-    unfolding slotStored storeAll
-    slot-idle h = rw (pair-idle mark k v h)
-
-  -- the pair of the last slot goes in last
-  store-last : (l r : IntMemory C) (i : ℕ) → allStored (intStore C) l r (suc i) ≡ slotStored (intStore C) (allStored (intStore C) l r i) (getD (r .marks) i 0) (getD (r .keys) i 0) (C .read (r .words) i)
-  unfolding allStored slotStored pairs
-  store-last l r i = store-append (intStore C) (pairs (intStore C .slots r) i) (pairOf (intStore C .slots r i)) l
-
-  module _ (O : LawfulColumn C) where
-    -- the rule leaves the sizes
-    rule-sized : (m : IntMemory C) (k : ℕ) (v : W) (x : Find W) → intStore C .sized (ruleBy (intStore C) m k v x) ≡ intStore C .sized m
-    unfolding ruleBy
-    rule-sized m k v (hit n w) = rw (O .long-write (m .words) (length (m .marks)) (slotAt (intStore C) m k n) v)
-    rule-sized m k v (miss e f) =
-        let i = slotAt (intStore C) m k f in
-        by-bool (ltb f (length (m .marks)))
-        (λ t. rw (t, length-set (m .marks) i 1, length-set (m .keys) i k, O .long-write (m .words) (length (m .marks)) i v))
-        (λ t. rw t)
-    rule-sized m k v damage = refl
-
-    slot-sized : (m : IntMemory C) (mark k : ℕ) (v : W) → sizedOf (intStore C) (slotStored (intStore C) m mark k v) ≡ sizedOf (intStore C) m
-    unfolding sizedOf slotStored storeAll pairOf cell rule
-    slot-sized m zero k v = refl
-    slot-sized m (suc zero) k v = rule-sized m k v (path (intStore C) m k)
-    slot-sized m (suc (suc zero)) k v = refl
-    slot-sized m (suc (suc (suc n))) k v = refl
+  slot-sized : (m : IntMemory C) (s : Slot ℕ W) → sizedOf (intStore C) (slotStored (intStore C) m s) ≡ sizedOf (intStore C) m
+  unfolding sizedOf slotStored storeAll pairOf rule
+  slot-sized m never = refl
+  slot-sized m freed = refl
+  slot-sized m damaged = refl
+  slot-sized m (live k v) = rule-sized m k v (path (intStore C) m k)
 
 -- the loop's state: the pairs of the first i slots are in, the sizes are right, and each list has its length
 pub record Storing {W : Type 0} (C : Column W) (l r m : IntMemory C) (i : ℕ) : Type 0 where
@@ -129,18 +112,18 @@ pub record Storing {W : Type 0} (C : Column W) (l r m : IntMemory C) (i : ℕ) :
   pub is : m ≡ allStored (intStore C) l r i
 
 pub store-start : {W : Type 0} (C : Column W) (l r : IntMemory C) → sizedOf (intStore C) l ≡ true → Storing C l r l 0
-unfolding allStored storeAll pairs
-store-start C l r f = record { within = omega arith; sized = f; marks-long = refl; keys-long = refl; is = refl }
+store-start C l r f = record { within = omega arith; sized = f; marks-long = refl; keys-long = refl; is = stored-none (intStore C) l r }
 
 module _ {W : Type 0} {C : Column W} {l r m : IntMemory C} {i : ℕ} (w : Storing C l r m i) where
   -- one slot more: its pair comes last
-  pub store-more : LawfulColumn C → {n : IntMemory C} → i < length (r .marks) → n ≡ slotStored (intStore C) m (getD (r .marks) i 0) (getD (r .keys) i 0) (C .read (r .words) i) → length (n .marks) ≡ length (m .marks) → length (n .keys) ≡ length (m .keys) → Storing C l r n (i + 1)
+  pub store-more : LawfulColumn C → {n : IntMemory C} → i < length (r .marks) → n ≡ slotStored (intStore C) m (intStore C .slots r i) → length (n .marks) ≡ length (m .marks) → length (n .keys) ≡ length (m .keys) → Storing C l r n (i + 1)
+  unfolding slotIn
   store-more O b e x y = record {
     within = omega arith;
-    sized = ap (sizedOf (intStore C)) e ∙ slot-sized C O m (getD (r .marks) i 0) (getD (r .keys) i 0) (C .read (r .words) i) ∙ w .sized;
+    sized = ap (sizedOf (intStore C)) e ∙ slot-sized C O m (intStore C .slots r i) ∙ w .sized;
     marks-long = x ∙ w .marks-long;
     keys-long = y ∙ w .keys-long;
-    is = rw (add-one, store-last C l r i, ← w .is) e;
+    is = rw (add-one, stored-last (intStore C) l r i, ← w .is) e;
   }
 
   pub store-end : length (r .marks) ≤ i → m ≡ allStored (intStore C) l r (length (r .marks))

@@ -4,11 +4,13 @@ ghost use mathlib.Core.Bool.{true};
 ghost use lib.ListN.{length};
 ghost use Rattle.model.specs.Calls.{rule};
 ghost use Rattle.kinds.specs.Calls.{sizedOf};
+ghost use Rattle.kinds.specs.Marks.{cell};
+ghost use Rattle.kinds.specs.Probing.{slotBy};
+ghost use Rattle.kinds.specs.Stores.{slotStored, allStored};
 ghost use Rattle.int_slots.specs.Memory.{memory};
 ghost use Rattle.int_slots.specs.Maps.{maps, before, after};
 ghost use Rattle.int_slots.specs.Sets.{sets, memory as setMemory, before as setBefore, after as setAfter};
 ghost use Rattle.int_slots.specs.Probing.{probing};
-ghost use Rattle.int_store.specs.Stores.{slotBy, slotStored, allStored};
 use int_slots::probe;
 use kinds::Probed;
 
@@ -33,7 +35,7 @@ pub fn store(marks: &mut [u8], keys: &mut [u64], key: u64) -> usize
 // The insert rule for a slot with this mark and key, where it is live.
 pub fn store_slot(marks: &mut [u8], keys: &mut [u64], mark: u8, key: u64)
     requires { ⌜ sizedOf sets (setMemory (now marks) (now keys)) ≡ true ⌝ }
-    ensures { λ r. ⌜ setAfter marks keys ≡ slotStored sets (setBefore marks keys) mark key tt ⌝ }
+    ensures { λ r. ⌜ setAfter marks keys ≡ slotStored sets (setBefore marks keys) (cell mark key tt) ⌝ }
 {
     if mark == 1 {
         store(marks, keys, key);
@@ -74,7 +76,7 @@ pub fn map_store_slot(
     value: u64,
 )
     requires { ⌜ sizedOf maps (memory (now marks) (now keys) (now values)) ≡ true ⌝ }
-    ensures { λ r. ⌜ after marks keys values ≡ slotStored maps (before marks keys values) mark key value ⌝ }
+    ensures { λ r. ⌜ after marks keys values ≡ slotStored maps (before marks keys values) (cell mark key value) ⌝ }
 {
     if mark == 1 {
         map_store(marks, keys, values, key, value);

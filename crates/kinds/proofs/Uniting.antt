@@ -1,10 +1,9 @@
 -- What the probing of a key says of the union's needs and of its insert rule, and what slots that are not live hold, at any store.
 use Prim.Native.Nat.{ℕ, zero, suc}
-use mathlib.Core.Bool.{Bool, true, false}
 use mathlib.Core.List.{List, [], _∷_, _++_}
 use mathlib.Core.Path.{_≡_, refl}
 use lib.Dec.{ltb}
-use Rattle.model.specs.Slots.{weigh, pairOf}
+use Rattle.model.specs.Slots.{weigh, pairOf, pairs}
 use Rattle.model.specs.Path.{Find, hit, miss, damage}
 use Rattle.model.specs.Store.{Store, path, slotAt}
 use Rattle.model.specs.Calls.{missed, lacking, ruleBy, rule, storeAll}
@@ -12,14 +11,8 @@ use Rattle.model.proofs.Cases.{by-bool}
 use Rattle.kinds.specs.declared.Probed.{Probed}
 use Rattle.kinds.specs.declared.Probed.the-variants.{Hit, Free, Full, Refused}
 use Rattle.kinds.specs.Marks.{cell}
-use Rattle.kinds.specs.Probing.{along}
-
--- Whether a probing that ended so missed the key.
-abbrev pub missedOf : Probed → Bool
-missedOf (Hit s e) = false
-missedOf (Free s e) = true
-missedOf (Full e) = true
-missedOf (Refused r) = true
+use Rattle.kinds.specs.Probing.{along, missedOf}
+use Rattle.kinds.specs.Stores.{slotIn, slotStored, allStored}
 
 -- What the rule leaves where the probing of the key ended so.
 abbrev pub ruleOf : {K W : Type 0} (M : Store K W) → M .State → K → W → Probed → M .State
@@ -52,7 +45,7 @@ module _ {K W : Type 0} (M : Store K W) (m : M .State) (k : K) where
     rule-probed v = rw p (rule-along v (path M m k))
 
 -- two lists of pairs, one after the other
-pub store-append : {K W : Type 0} (M : Store K W) (ps qs : List (K × W)) (m : M .State) → storeAll M m (ps ++ qs) ≡ storeAll M (storeAll M m ps) qs
+store-append : {K W : Type 0} (M : Store K W) (ps qs : List (K × W)) (m : M .State) → storeAll M m (ps ++ qs) ≡ storeAll M (storeAll M m ps) qs
 unfolding storeAll
 store-append M [] qs m = refl
 store-append M (p ∷ ps) qs m = store-append M ps qs (rule M m (p .0) (p .1))
@@ -67,9 +60,32 @@ module _ {K W : Type 0} where
   weigh-idle g (suc (suc (suc m))) k v h = refl
 
   -- and has no pair
-  pub pair-idle : (mark : ℕ) (k : K) (v : W) → (mark ≡ 1 → ⊥) → pairOf (cell mark k v) ≡ []
+  pair-idle : (mark : ℕ) (k : K) (v : W) → (mark ≡ 1 → ⊥) → pairOf (cell mark k v) ≡ []
   unfolding pairOf cell
   pair-idle zero k v h = refl
   pair-idle (suc zero) k v h = absurd (h refl)
   pair-idle (suc (suc zero)) k v h = refl
   pair-idle (suc (suc (suc m))) k v h = refl
+
+module _ {K W : Type 0} (M : Store K W) (l : M .State) where
+  module _ (mark : ℕ) (k : K) (v : W) where
+    -- a live slot's pair goes in by the rule
+    pub slot-live : {m : M .State} → mark ≡ 1 → m ≡ rule M l k v → m ≡ slotStored M l (cell mark k v)
+    unfolding slotStored storeAll pairOf cell
+    slot-live e p = rw e p
+
+    -- another slot stores nothing
+    pub slot-idle : (mark ≡ 1 → ⊥) → l ≡ slotStored M l (cell mark k v)
+    unfolding slotStored storeAll
+    slot-idle h = rw (pair-idle mark k v h)
+
+  module _ (r : M .State) where
+    -- of no slot nothing is stored
+    pub stored-none : l ≡ allStored M l r 0
+    unfolding allStored storeAll pairs
+    stored-none = refl
+
+    -- the pair of the last slot goes in last
+    pub stored-last : (i : ℕ) → allStored M l r (suc i) ≡ slotStored M (allStored M l r i) (slotIn M r i)
+    unfolding allStored slotStored slotIn pairs
+    stored-last i = store-append M (pairs (M .slots r) i) (pairOf (M .slots r i)) l

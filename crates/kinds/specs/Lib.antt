@@ -8,6 +8,7 @@ pub mod Moved
 pub mod Probing
 pub mod Scanning
 pub mod Stepping
+pub mod Stores
 pub mod Told
 pub mod Published
 pub mod Owed

@@ -1,6 +1,6 @@
 -- What a probing loop yields: the path's own answer, in slots, and the same path step by step as the loop takes it.
 use Prim.Native.Nat.{ℕ, zero, suc, _+_}
-use mathlib.Core.Bool.{cond}
+use mathlib.Core.Bool.{Bool, true, false, cond}
 use lib.Dec.{ltb}
 use Rattle.model.specs.Slots.{Slot, never, freed, damaged, live, Keys}
 use Rattle.model.specs.Path.{Find, hit, miss, damage, at}
@@ -39,6 +39,20 @@ unfoldable pub along : {W : Type 0} → ℕ → ℕ → Find W → Probed
 along S h (hit n v) = Hit (at S h n) (suc n)
 along S h (miss e f) = cond (ltb f S) (Free (at S h f) e) (Full e)
 along S h damage = Refused refusal.Damaged
+
+-- Whether a probing that ended so missed the key.
+abbrev pub missedOf : Probed → Bool
+missedOf (Hit s e) = false
+missedOf (Free s e) = true
+missedOf (Full e) = true
+missedOf (Refused r) = true
+
+-- The slot that has the key after the insert rule, by how its probing ended: its own, or the free one that took it; S where there was none.
+unfoldable pub slotBy : ℕ → Probed → ℕ
+slotBy S (Hit s e) = s
+slotBy S (Free s e) = s
+slotBy S (Full e) = S
+slotBy S (Refused r) = S
 
 -- One slot of the loop, by the look at it: an answer, or the rest with the first free slot so far.
 unfoldable pub onSight : ℕ → ℕ → ℕ → ℕ → Sight → (ℕ → Probed) → Probed

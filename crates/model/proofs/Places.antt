@@ -14,11 +14,12 @@ use Rattle.model.specs.Calls.{Or, no, ok, need, pass, Seen, found, absen
 use Rattle.model.specs.Machine.{Own, makes, clears, capacities, lens, empties, reserves, gets, contains-keys, removes, entries, inserts, puts, occupied-gets, occupied-removes, occupied-sets, vacant-inserts, or-inserts, insert-entries, Call, own, copies, unions, steps, World, placed, leaves, left, turned}
 use Rattle.model.specs.Lawful.{Steady}
 use Rattle.model.specs.Places.{Places, Apart, accepted, insert-names, remove-names, handle-names, own-names, rule-names, all-names, names, run-names, OnlyNamed}
+use Rattle.model.specs.Running.{Roomy}
 use Rattle.model.specs.Runs.{run}
 use Rattle.model.proofs.Path.{at-below}
 use Rattle.model.proofs.Accepted.{need-ok, pass-ok, seen-found, spot-vacant, grip-live, good-vacant, entry-spot, put-taken, remove-seen, removed-grip, vacancy-good}
 use Rattle.model.proofs.Keeps.{path-live}
-use Rattle.model.proofs.Running.{Roomy, slot-left, bytes-there, free-slot, one-more, union-roomy}
+use Rattle.model.proofs.Running.{slot-left, bytes-there, free-slot, one-more, union-roomy}
 
 not-false : (b : Bool) → not b ≡ true → b ≡ false
 not-false true e = clash cc

@@ -12,7 +12,7 @@ use Rattle.model.specs.Finite.{mass, firsts}
 use Rattle.model.specs.Store.{Store, path, slotAt, live-count, used, damagedSlots}
 use Rattle.model.specs.Calls.{ok, need, Spot, occupied, vacant, spotBy, ruleBy, rule, missed, lacking, needs, anyDamage, union}
 use Rattle.model.specs.Lawful.{Wrote, Steady}
-use Rattle.model.specs.Running.{Running}
+use Rattle.model.specs.Running.{Running, Roomy}
 use Rattle.model.proofs.Cases.{by-bool, by-lt, by-eq, by-same, clash}
 use Rattle.model.proofs.Slots.{put-same, put-other, by-put, total-put, damaged-not, damaged-bad, count-high}
 use Rattle.model.proofs.Path.{place, place-below, at-place, at-once, at-below, stop-before, Ended, ended-hit, find-ended, hit-at, hurt-at, find-hit, free-here}
@@ -92,14 +92,6 @@ module _ {K W : Type 0} (M : Store K W) where
   free-weighs g damaged e = clash cc
   free-weighs g (live a w) e = clash cc
 
-  -- a memory with no damage that has room for what it lacks of the pairs
-  pub record Roomy (m : M .State) (ps : List (K × W)) : Type 0 where
-    pub sized : M .sized m ≡ true
-    pub unharmed : M .damagedFully m ≡ false
-    pub unhurt : damagedSlots M m ≡ false
-    pub slots-left : live-count M m + mass (λ k. cond (lacking M m k) 1 0) (firsts ps) ≤ M .size m
-    pub bytes-left : used M m + mass (λ k. cond (lacking M m k) (M .weight k) 0) (firsts ps) ≤ M .bytes m
-
   module _ (T : Steady M) (m n : M .State) (i : ℕ) (k : K) (v : W) (l : i < M .size m) (z : M .sized m ≡ true) (own : (a : K) (w : W) → M .slots m i ≡ live a w → a ≡ k) (wrote : Wrote M (λ x. M .damagedFully x ≡ false) m n (put (M .slots m) i (live k v))) where
     path-wrote : (a : K) → path M n a ≡ find (M .keys) (M .size m) (M .home m a) (put (M .slots m) i (live k v)) a
     unfolding path
@@ -130,7 +122,7 @@ module _ {K W : Type 0} (M : Store K W) where
     total-wrote g = rw (wrote .slots, wrote .size) (total-put g (M .slots m) i (live k v) (M .size m) l)
 
     -- a slot that gains what its key was lacking leaves room for the rest
-    roomy-after : (ps : List (K × W)) → ((g : K → ℕ) → cond (lacking M m k) (g k) 0 + weigh g (M .slots m i) ≡ g k) → Roomy m ((k, v) ∷ ps) → Roomy n ps
+    roomy-after : (ps : List (K × W)) → ((g : K → ℕ) → cond (lacking M m k) (g k) 0 + weigh g (M .slots m i) ≡ g k) → Roomy M m ((k, v) ∷ ps) → Roomy M n ps
     unfolding live-count used mass firsts
     roomy-after ps debt r = record {
       sized = wrote .sized ∙ r .sized;
@@ -140,7 +132,7 @@ module _ {K W : Type 0} (M : Store K W) where
       bytes-left = omega (arith, r .bytes-left, wrote .bytes, total-wrote (M .weight), debt (M .weight), lacks-mass (M .weight) (firsts ps));
     }
 
-  module _ (T : Steady M) (m : M .State) (k : K) (v : W) (ps : List (K × W)) (r : Roomy m ((k, v) ∷ ps)) where
+  module _ (T : Steady M) (m : M .State) (k : K) (v : W) (ps : List (K × W)) (r : Roomy M m ((k, v) ∷ ps)) where
     -- an absent key finds a slot
     pub slot-left : (e f : ℕ) → path M m k ≡ miss e f → f < M .size m
     unfolding lacking missed live-count mass firsts path
@@ -162,7 +154,7 @@ module _ {K W : Type 0} (M : Store K W) where
         (at-below (M .size m) (M .home m k) f (T .homes m k (r .sized)) l, rw x (free-here (M .size m) (M .home m k) (M .slots m) (omega arith)))
 
     -- what one pair does: it is taken, and there is still room for the rest
-    pub one-more : (x : Find W) → path M m k ≡ x → ((s : Spot W) × (spotBy M m k x ≡ ok s)) × Roomy (ruleBy M m k v x) ps
+    pub one-more : (x : Find W) → path M m k ≡ x → ((s : Spot W) × (spotBy M m k x ≡ ok s)) × Roomy M (ruleBy M m k v x) ps
     unfolding spotBy ruleBy need lacking missed weigh damagedSlots path frees
     one-more (hit n w) q =
         let (l, p) = path-live M m k n w (T .homes m k (r .sized)) q in
@@ -189,13 +181,13 @@ module _ {K W : Type 0} (M : Store K W) where
   both-false false true e = clash cc
   both-false false false e = (refl, refl)
 
-  roomy-runs : Steady M → (ps : List (K × W)) (m : M .State) → Roomy m ps → Running M m ps
+  roomy-runs : Steady M → (ps : List (K × W)) (m : M .State) → Roomy M m ps → Running M m ps
   unfolding rule
   roomy-runs T [] m r = tt
   roomy-runs T (p ∷ ps) m r = let (s, t) = one-more T m (p .0) (p .1) ps r (path M m (p .0)) refl in (s, roomy-runs T ps (rule M m (p .0) (p .1)) t)
 
   -- the left of an accepted union has room for the right's pairs
-  pub union-roomy : Steady M → (l r : M .State) (u : Unit {0}) → union M l r ≡ ok u → Roomy l (pairs (M .slots r) (M .size r))
+  pub union-roomy : Steady M → (l r : M .State) (u : Unit {0}) → union M l r ≡ ok u → Roomy M l (pairs (M .slots r) (M .size r))
   unfolding union needs anyDamage live-count
   union-roomy T l r u e =
       let (a, x) = need-ok (M .sized l) 1 _ u e in

@@ -15,12 +15,13 @@ use Rattle.model.specs.Demand2.{refuses, renews, grows, mapped, next, be
 use Rattle.model.specs.Demand3.{lookIn}
 use Rattle.model.specs.Tables.{sweeps, Sure}
 use Rattle.model.specs.Lawful.{Lawful, Steady, Shows}
+use Rattle.model.specs.Running.{Roomy}
 use Rattle.model.specs.Runs.{putAll, run, Accepted, bookedAll, drops, CopiesKnown}
 use Rattle.model.proofs.Cases.{by-bool, by-eq, neither, clash}
 use Rattle.model.proofs.Finite.{some-is}
 use Rattle.model.proofs.Demand2.{next-known}
 use Rattle.model.proofs.Laws.{put-clear, put-by-rule}
-use Rattle.model.proofs.Running.{Roomy, one-more}
+use Rattle.model.proofs.Running.{one-more}
 use Rattle.model.proofs.Tables.{booked-shows, booked-sure, booked-stands, sure-settled, turned-size}
 
 -- where a key is found, the map is known

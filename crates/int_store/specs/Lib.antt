@@ -1,2 +1,0 @@
--- The definitions of the insert rule in integer tables.
-pub mod Stores
