@@ -2,7 +2,7 @@
 use Prim.Native.Nat.{ℕ, zero, suc, _+_, _*_, _/_, _%_, _^_, _≤_, _<_}
 use mathlib.Core.List.{List, _++_}
 use mathlib.Core.Path.{_≡_, ap, sym, _∙_}
-use native.Mathlib.Nat.{pow-suc}
+use native.Mathlib.Nat.{pow-suc, mod-eq-of-lt}
 use native.Mathlib.Omega.{arith}
 use lib.ListN.{length, getD, take, drop}
 use lib.Seq.{drop-cons, drop-drop, take-add}
@@ -30,16 +30,16 @@ one-at s i l h =
     let e : getD s i 0 % 256 ≡ getD s i 0 = omega arith in
     rw (drop-cons s i 0 l, e)
 
--- n bytes and the next n
-pub joined : (n x y : ℕ) (s : List ℕ) (i : ℕ) → x < 256 ^ n → le n x ≡ take n (drop i s) → le n y ≡ take n (drop (i + n) s)
-    → le (n + n) (x + y * 256 ^ n) ≡ take (n + n) (drop i s)
-joined n x y s i l p q = rw (low-high n n x y l, take-add n n (drop i s), drop-drop n i s, p, q)
+-- n bytes and the next n, which are shifted past them and lose none by that
+pub joined : (n w x y : ℕ) (s : List ℕ) (i : ℕ) → x < 256 ^ n → y * 256 ^ n < w → le n x ≡ take n (drop i s) → le n y ≡ take n (drop (i + n) s)
+    → le (n + n) (x + y * 256 ^ n % w) ≡ take (n + n) (drop i s)
+joined n w x y s i l m p q = rw (mod-eq-of-lt m, low-high n n x y l, take-add n n (drop i s), drop-drop n i s, p, q)
 
 -- a byte and the next
 pub joined-two : (s : List ℕ) (i : ℕ) → i + 2 ≤ length s → getD s i 0 < 256 → getD s (i + 1) 0 < 256
-    → le 2 (getD s i 0 + getD s (i + 1) 0 * 256) ≡ take 2 (drop i s)
+    → le 2 (getD s i 0 + getD s (i + 1) 0 * 256 % 65536) ≡ take 2 (drop i s)
 joined-two s i l h k =
-    joined 1 (getD s i 0) (getD s (i + 1) 0) s i (omega arith) (one-at s i (omega arith) h) (one-at s (i + 1) (omega arith) k)
+    joined 1 65536 (getD s i 0) (getD s (i + 1) 0) s i (omega arith) (omega arith) (one-at s i (omega arith) h) (one-at s (i + 1) (omega arith) k)
 
 -- other numbers have other bytes
 pub one-number : (n x y : ℕ) → x < 256 ^ n → y < 256 ^ n → le n x ≡ le n y → x ≡ y

@@ -151,7 +151,7 @@ fn two_at(bytes: &[u8], i: usize) -> u16
     requires { ⌜ i + 2 ≤ length (now bytes) ⌝ }
     ensures { λ r. ⌜ le 2 r ≡ take 2 (drop i (now (bytes .entry))) ⌝ }
 {
-    (bytes[i] as u16) + (bytes[i + 1] as u16) * 256
+    (bytes[i] as u16) + ((bytes[i + 1] as u16) << 8)
 }
 
 // The four bytes from i on as one number, low byte first.
@@ -159,7 +159,7 @@ fn four_at(bytes: &[u8], i: usize) -> u32
     requires { ⌜ i + 4 ≤ length (now bytes) ⌝ }
     ensures { λ r. ⌜ le 4 r ≡ take 4 (drop i (now (bytes .entry))) ⌝ }
 {
-    (two_at(bytes, i) as u32) + (two_at(bytes, i + 2) as u32) * 65536
+    (two_at(bytes, i) as u32) + ((two_at(bytes, i + 2) as u32) << 16)
 }
 
 // The eight bytes from i on as one number, low byte first.
@@ -167,7 +167,7 @@ fn eight_at(bytes: &[u8], i: usize) -> u64
     requires { ⌜ i + 8 ≤ length (now bytes) ⌝ }
     ensures { λ r. ⌜ le 8 r ≡ take 8 (drop i (now (bytes .entry))) ⌝ }
 {
-    (four_at(bytes, i) as u64) + (four_at(bytes, i + 4) as u64) * 4294967296
+    (four_at(bytes, i) as u64) + ((four_at(bytes, i + 4) as u64) << 32)
 }
 
 // Whether two byte strings of one length are equal, byte by byte.
