@@ -16,14 +16,14 @@ pub const SLOT_LIMIT: u64 = 4096;
 // The most bytes that a key has.
 pub const KEY_LIMIT: usize = 255;
 
-// The product of h and the published prime, 2^40 + 435, modulo 2^64: 435 is 3 times 1 + 16 + 128.
+// The product of h and the published prime, 2^40 + 435, modulo 2^64: 435 is 3 + 48 + 384.
 fn times_prime(h: u64) -> u64
     ensures { λ r. ⌜ r ≡ h * 1099511628211 % 2 ^ 64 ⌝ }
 {
-    let thrice = wrapping_add_u64(h, h << 1);
-    let more = wrapping_add_u64(thrice, thrice << 4);
-    let small = wrapping_add_u64(more, thrice << 7);
-    wrapping_add_u64(small, h << 40)
+    let by_3 = wrapping_add_u64(h, h << 1);
+    let by_51 = wrapping_add_u64(by_3, by_3 << 4);
+    let by_435 = wrapping_add_u64(by_51, by_3 << 7);
+    wrapping_add_u64(by_435, h << 40)
 }
 
 // The state h after one byte more.
