@@ -367,11 +367,12 @@ MOSS_CHECK MOSS_CALL moss_answer moss_byte_map_is_empty(const uint8_t *MOSS_REST
     const uint16_t *MOSS_RESTRICT offsets, size_t offsets_count, const uint8_t *MOSS_RESTRICT lengths, size_t lengths_count,
     const uint64_t *MOSS_RESTRICT values, size_t values_count, const uint8_t *MOSS_RESTRICT arena, size_t arena_count);
 
-/* Whether `asked` slots or more are not live. MOSS_ROOM. Refuses 1, 5, 7. */
+/* Whether `keys` slots or more are not live, and `bytes` arena bytes or more not used: into a sound table any so many different
+ * absent keys of allowed length, of so many bytes in all, then go. MOSS_ROOM. Refuses 1, 5, 7, 8. */
 MOSS_CHECK MOSS_CALL moss_answer moss_byte_map_reserve(const uint8_t *MOSS_RESTRICT marks, size_t marks_count,
     const uint16_t *MOSS_RESTRICT offsets, size_t offsets_count, const uint8_t *MOSS_RESTRICT lengths, size_t lengths_count,
     const uint64_t *MOSS_RESTRICT values, size_t values_count, const uint8_t *MOSS_RESTRICT arena, size_t arena_count,
-    uint64_t asked);
+    uint64_t keys, uint64_t bytes);
 
 /* The value of a key. MOSS_FOUND with value, slot and examined, or MOSS_ABSENT with examined. Refuses 1, 2, 5. */
 MOSS_CHECK MOSS_CALL moss_answer moss_byte_map_get(const uint8_t *MOSS_RESTRICT marks, size_t marks_count,
@@ -515,10 +516,11 @@ MOSS_CHECK MOSS_CALL moss_answer moss_byte_set_is_empty(const uint8_t *MOSS_REST
     const uint16_t *MOSS_RESTRICT offsets, size_t offsets_count, const uint8_t *MOSS_RESTRICT lengths, size_t lengths_count,
     const uint8_t *MOSS_RESTRICT arena, size_t arena_count);
 
-/* Whether `asked` slots or more are not live. MOSS_ROOM. Refuses 1, 5, 7. */
+/* Whether `keys` slots or more are not live, and `bytes` arena bytes or more not used: into a sound table any so many different
+ * absent keys of allowed length, of so many bytes in all, then go. MOSS_ROOM. Refuses 1, 5, 7, 8. */
 MOSS_CHECK MOSS_CALL moss_answer moss_byte_set_reserve(const uint8_t *MOSS_RESTRICT marks, size_t marks_count,
     const uint16_t *MOSS_RESTRICT offsets, size_t offsets_count, const uint8_t *MOSS_RESTRICT lengths, size_t lengths_count,
-    const uint8_t *MOSS_RESTRICT arena, size_t arena_count, uint64_t asked);
+    const uint8_t *MOSS_RESTRICT arena, size_t arena_count, uint64_t keys, uint64_t bytes);
 
 /* Where the key is stored. MOSS_FOUND with offset, length, slot and examined, or MOSS_ABSENT with examined. Refuses 1, 2, 5. */
 MOSS_CHECK MOSS_CALL moss_answer moss_byte_set_get(const uint8_t *MOSS_RESTRICT marks, size_t marks_count,
@@ -1073,9 +1075,9 @@ MOSS_CHECK static inline moss_answer moss_bm_is_empty(const moss_byte_map *t)
     return moss_byte_map_is_empty(MOSS_LENT_BYTE_MAP(t));
 }
 
-MOSS_CHECK static inline moss_answer moss_bm_reserve(const moss_byte_map *t, uint64_t asked)
+MOSS_CHECK static inline moss_answer moss_bm_reserve(const moss_byte_map *t, uint64_t keys, uint64_t bytes)
 {
-    return moss_byte_map_reserve(MOSS_LENT_BYTE_MAP(t), asked);
+    return moss_byte_map_reserve(MOSS_LENT_BYTE_MAP(t), keys, bytes);
 }
 
 MOSS_CHECK static inline moss_answer moss_bm_get(const moss_byte_map *t, const uint8_t *key, size_t key_length)
@@ -1182,9 +1184,9 @@ MOSS_CHECK static inline moss_answer moss_bmv_is_empty(const moss_byte_map_view 
     return moss_byte_map_is_empty(MOSS_LENT_BYTE_MAP(t));
 }
 
-MOSS_CHECK static inline moss_answer moss_bmv_reserve(const moss_byte_map_view *t, uint64_t asked)
+MOSS_CHECK static inline moss_answer moss_bmv_reserve(const moss_byte_map_view *t, uint64_t keys, uint64_t bytes)
 {
-    return moss_byte_map_reserve(MOSS_LENT_BYTE_MAP(t), asked);
+    return moss_byte_map_reserve(MOSS_LENT_BYTE_MAP(t), keys, bytes);
 }
 
 MOSS_CHECK static inline moss_answer moss_bmv_get(const moss_byte_map_view *t, const uint8_t *key, size_t key_length)
@@ -1275,9 +1277,9 @@ MOSS_CHECK static inline moss_answer moss_bs_is_empty(const moss_byte_set *t)
     return moss_byte_set_is_empty(MOSS_LENT_BYTE_SET(t));
 }
 
-MOSS_CHECK static inline moss_answer moss_bs_reserve(const moss_byte_set *t, uint64_t asked)
+MOSS_CHECK static inline moss_answer moss_bs_reserve(const moss_byte_set *t, uint64_t keys, uint64_t bytes)
 {
-    return moss_byte_set_reserve(MOSS_LENT_BYTE_SET(t), asked);
+    return moss_byte_set_reserve(MOSS_LENT_BYTE_SET(t), keys, bytes);
 }
 
 MOSS_CHECK static inline moss_answer moss_bs_get(const moss_byte_set *t, const uint8_t *key, size_t key_length)
@@ -1332,9 +1334,9 @@ MOSS_CHECK static inline moss_answer moss_bsv_is_empty(const moss_byte_set_view 
     return moss_byte_set_is_empty(MOSS_LENT_BYTE_SET(t));
 }
 
-MOSS_CHECK static inline moss_answer moss_bsv_reserve(const moss_byte_set_view *t, uint64_t asked)
+MOSS_CHECK static inline moss_answer moss_bsv_reserve(const moss_byte_set_view *t, uint64_t keys, uint64_t bytes)
 {
-    return moss_byte_set_reserve(MOSS_LENT_BYTE_SET(t), asked);
+    return moss_byte_set_reserve(MOSS_LENT_BYTE_SET(t), keys, bytes);
 }
 
 MOSS_CHECK static inline moss_answer moss_bsv_get(const moss_byte_set_view *t, const uint8_t *key, size_t key_length)
@@ -1872,15 +1874,15 @@ MOSS_CALL moss_answer moss_byte_map_is_empty(const uint8_t *MOSS_RESTRICT marks,
 moss_answer *moss_byte_map_reserve_wide(moss_answer *MOSS_RESTRICT answer, const uint8_t *MOSS_RESTRICT marks, uint64_t marks_count,
     const uint16_t *MOSS_RESTRICT offsets, uint64_t offsets_count, const uint8_t *MOSS_RESTRICT lengths, uint64_t lengths_count,
     const uint64_t *MOSS_RESTRICT values, uint64_t values_count, const uint8_t *MOSS_RESTRICT arena, uint64_t arena_count,
-    uint64_t asked);
+    uint64_t keys, uint64_t bytes);
 MOSS_CALL moss_answer moss_byte_map_reserve(const uint8_t *MOSS_RESTRICT marks, size_t marks_count,
     const uint16_t *MOSS_RESTRICT offsets, size_t offsets_count, const uint8_t *MOSS_RESTRICT lengths, size_t lengths_count,
     const uint64_t *MOSS_RESTRICT values, size_t values_count, const uint8_t *MOSS_RESTRICT arena, size_t arena_count,
-    uint64_t asked)
+    uint64_t keys, uint64_t bytes)
 {
     moss_answer answer;
     moss_byte_map_reserve_wide(&answer, marks, marks_count, offsets, offsets_count, lengths, lengths_count, values, values_count,
-        arena, arena_count, asked);
+        arena, arena_count, keys, bytes);
     return answer;
 }
 
@@ -2208,14 +2210,14 @@ MOSS_CALL moss_answer moss_byte_set_is_empty(const uint8_t *MOSS_RESTRICT marks,
 
 moss_answer *moss_byte_set_reserve_wide(moss_answer *MOSS_RESTRICT answer, const uint8_t *MOSS_RESTRICT marks, uint64_t marks_count,
     const uint16_t *MOSS_RESTRICT offsets, uint64_t offsets_count, const uint8_t *MOSS_RESTRICT lengths, uint64_t lengths_count,
-    const uint8_t *MOSS_RESTRICT arena, uint64_t arena_count, uint64_t asked);
+    const uint8_t *MOSS_RESTRICT arena, uint64_t arena_count, uint64_t keys, uint64_t bytes);
 MOSS_CALL moss_answer moss_byte_set_reserve(const uint8_t *MOSS_RESTRICT marks, size_t marks_count,
     const uint16_t *MOSS_RESTRICT offsets, size_t offsets_count, const uint8_t *MOSS_RESTRICT lengths, size_t lengths_count,
-    const uint8_t *MOSS_RESTRICT arena, size_t arena_count, uint64_t asked)
+    const uint8_t *MOSS_RESTRICT arena, size_t arena_count, uint64_t keys, uint64_t bytes)
 {
     moss_answer answer;
     moss_byte_set_reserve_wide(&answer, marks, marks_count, offsets, offsets_count, lengths, lengths_count, arena, arena_count,
-        asked);
+        keys, bytes);
     return answer;
 }
 

@@ -96,3 +96,13 @@ moss_answer __wrap_moss_byte_map_walk_on(const uint8_t *marks, size_t marks_coun
     return __real_moss_byte_map_walk_on(marks, marks_count, offsets, offsets_count, lengths, lengths_count, values, values_count, arena, arena_count,
         FAULT == 8 ? &copy : walk, budget);
 }
+
+/* 9: bytes that are not asked for. */
+moss_answer __real_moss_byte_set_reserve(const uint8_t *marks, size_t marks_count, const uint16_t *offsets, size_t offsets_count,
+    const uint8_t *lengths, size_t lengths_count, const uint8_t *arena, size_t arena_count, uint64_t keys, uint64_t bytes);
+moss_answer __wrap_moss_byte_set_reserve(const uint8_t *marks, size_t marks_count, const uint16_t *offsets, size_t offsets_count,
+    const uint8_t *lengths, size_t lengths_count, const uint8_t *arena, size_t arena_count, uint64_t keys, uint64_t bytes)
+{
+    return __real_moss_byte_set_reserve(marks, marks_count, offsets, offsets_count, lengths, lengths_count, arena, arena_count, keys,
+        FAULT == 9 ? 0 : bytes);
+}

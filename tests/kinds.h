@@ -45,6 +45,7 @@ struct order {
     uint64_t which;
     uint64_t slot;
     uint64_t asked;
+    uint64_t asked_bytes;
     uint64_t walk;
     uint64_t *lent;
     uint64_t budget;
@@ -177,7 +178,7 @@ struct kind {
     CALL(kind, capacity, T(o->table)) \
     CALL(kind, len, T(o->table)) \
     CALL(kind, is_empty, T(o->table)) \
-    CALL(kind, reserve, T(o->table), o->asked) \
+    CALL(kind, reserve, T(o->table), o->asked, o->asked_bytes) \
     CALL(kind, get, T(o->table), BYTE_KEY(o)) \
     CALL(kind, contains_key, T(o->table), BYTE_KEY(o)) \
     CALL(kind, insert, T(o->table), BYTE_KEY(o), o->value) \
@@ -206,7 +207,7 @@ struct kind {
     CALL(kind, capacity, T(o->table)) \
     CALL(kind, len, T(o->table)) \
     CALL(kind, is_empty, T(o->table)) \
-    CALL(kind, reserve, T(o->table), o->asked) \
+    CALL(kind, reserve, T(o->table), o->asked, o->asked_bytes) \
     CALL(kind, get, T(o->table), BYTE_KEY(o)) \
     CALL(kind, contains_key, T(o->table), BYTE_KEY(o)) \
     CALL(kind, entry, T(o->table), BYTE_KEY(o)) \
@@ -223,7 +224,7 @@ struct kind {
     CALL(kind, capacity, T(o->table)) \
     CALL(kind, len, T(o->table)) \
     CALL(kind, is_empty, T(o->table)) \
-    CALL(kind, reserve, T(o->table), o->asked) \
+    CALL(kind, reserve, T(o->table), o->asked, o->asked_bytes) \
     CALL(kind, get, T(o->table), BYTE_KEY(o)) \
     CALL(kind, contains, T(o->table), BYTE_KEY(o)) \
     CALL(kind, insert, T(o->table), BYTE_KEY(o)) \
@@ -239,7 +240,7 @@ struct kind {
     CALL(kind, capacity, T(o->table)) \
     CALL(kind, len, T(o->table)) \
     CALL(kind, is_empty, T(o->table)) \
-    CALL(kind, reserve, T(o->table), o->asked) \
+    CALL(kind, reserve, T(o->table), o->asked, o->asked_bytes) \
     CALL(kind, get, T(o->table), BYTE_KEY(o)) \
     CALL(kind, contains, T(o->table), BYTE_KEY(o)) \
     CALL(kind, step, T(o->table), o->walk, o->budget) \

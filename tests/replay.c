@@ -24,8 +24,8 @@ enum { MALFORMED = 2, WRONG = 3, MARGIN = 0xA5 };
 
 /* ---- The calls as text ---- */
 
-/* The words of each call after its name: k a key, v a value, s a slot, h occupied or vacant, a slots asked, w a walk, b a budget,
- * o the other table, 0 a number that has to be 0, - a number that does not matter. */
+/* The words of each call after its name: k a key, v a value, s a slot, h occupied or vacant, a keys asked, y their bytes, w a walk, b a budget,
+ * o the other table, 0 a number that has to be 0. */
 static const struct {
     const char *name;
     const char *words;
@@ -35,7 +35,7 @@ static const struct {
     [LEN] = {"len", ""},
     [IS_EMPTY] = {"is_empty", ""},
     [CAPACITY] = {"capacity", ""},
-    [RESERVE] = {"reserve", "a-"},
+    [RESERVE] = {"reserve", "ay"},
     [GET] = {"get", "k"},
     [CONTAINS] = {"contains", "k"},
     [REMOVE] = {"remove", "k"},
@@ -586,10 +586,10 @@ static void read_word(const struct kind *kind, struct order *o, char letter, con
         return;
     case 's': o->slot = number_of(word, UINT64_MAX); return;
     case 'a': o->asked = number_of(word, UINT64_MAX); return;
+    case 'y': o->asked_bytes = number_of(word, UINT64_MAX); return;
     case 'w': o->walk = number_of(word, UINT64_MAX); return;
     case 'b': o->budget = number_of(word, UINT64_MAX); return;
     case '0': number_of(word, 0); return;
-    case '-': number_of(word, UINT64_MAX); return;
     case 'h':
         o->which = word != NULL && strcmp(word, "occupied") == 0 ? MOSS_OCCUPIED : MOSS_VACANT;
         if (word == NULL || (o->which == MOSS_VACANT && strcmp(word, "vacant") != 0))

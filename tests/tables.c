@@ -72,6 +72,7 @@ static struct order some_order(void)
 {
     static uint8_t keys[KEYS][3] = {"", "a", "bc", "d", "ef", "g"};
     struct order o = {.key = below(KEYS), .value = below(100), .slot = below(SLOTS + 1), .asked = below(SLOTS + 1), .budget = below(4)};
+    o.asked_bytes = below(ARENA + 1);
     o.which = below(2) == 0 ? MOSS_OCCUPIED : MOSS_VACANT;
     o.walk = below(SLOTS + 2);
     o.bytes = (struct array){.data = keys[o.key], .count = strlen((char *)keys[o.key])};

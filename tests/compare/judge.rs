@@ -48,6 +48,11 @@ impl Finite {
         }
     }
 
+    /// How many arena bytes its keys take.
+    fn used(&self) -> u64 {
+        self.keys().iter().map(Key::room).sum()
+    }
+
     fn len(&self) -> usize {
         match self {
             Finite::Map(map) => map.len(),
@@ -73,11 +78,13 @@ struct Walk {
     handed: HashSet<Key>,
 }
 
-/// What is known of a table: its finite map, where it was made and changed by its own calls, and its walks.
+/// What is known of a table: its finite map, where it was made and changed by its own calls, its walks, and the keys and bytes that reserve
+/// said there is room for, as far as they are not spent.
 #[derive(Default)]
 pub struct Judge {
     finite: Option<Finite>,
     walks: Vec<Walk>,
+    room: Option<(u64, u64)>,
 }
 
 type Verdict = Result<(), String>;
@@ -93,7 +100,7 @@ fn hold(fact: bool, words: &str) -> Verdict {
 impl Judge {
     /// A table that was made and changed by its own calls.
     pub fn of_reachable(t: &Table) -> Judge {
-        Judge { finite: Some(Finite::of(t)), walks: Vec::new() }
+        Judge { finite: Some(Finite::of(t)), walks: Vec::new(), room: None }
     }
 
     /// Starts a walk; its number.
@@ -108,25 +115,49 @@ impl Judge {
         self.walks.iter().map(|walk| walk.at).enumerate().collect()
     }
 
+    /// The keys and bytes that reserve said there is room for, and that are not spent.
+    pub fn room(&self) -> Option<(u64, u64)> {
+        self.room
+    }
+
+    /// Whether reserve promised that a call, the insert of an absent key of allowed length, goes in.
+    pub fn promises(&self, call: &Call) -> bool {
+        match (call, &self.finite, self.room) {
+            (Call::Insert(key, _), Some(finite), Some((keys, bytes))) => {
+                keys > 0 && key.room() <= bytes.min(255) && finite.get(key).is_none()
+            }
+            _ => false,
+        }
+    }
+
+    /// Keeps what reserve said, less what was put in since; another change ends it.
+    fn keep_room(&mut self, call: &Call, answer: &Answer, promised: bool, same: bool) {
+        self.room = match (call, answer, self.room) {
+            (Call::Reserve(keys, bytes), Answer::Room, _) => Some((*keys, *bytes)),
+            (Call::Insert(key, _), _, Some((keys, bytes))) if promised => Some((keys - 1, bytes - key.room())),
+            (_, _, room) => room.filter(|_| same),
+        };
+    }
+
     /// What a call on a reachable table has to be refused with, as far as the finite map decides it.
     fn refusal(&self, t: &Table, call: &Call) -> Option<u64> {
         let finite = self.finite.as_ref()?;
         match call {
             Call::Get(key) | Call::Contains(key) | Call::Remove(key) => Some(2).filter(|_| key.room() > 255),
             Call::Insert(key, _) | Call::Entry(key) => {
-                let used: u64 = finite.keys().iter().map(Key::room).sum();
                 let absent = finite.get(key).is_none();
                 if key.room() > 255 {
                     Some(2)
                 } else if absent && finite.len() == t.slots() {
                     Some(7)
-                } else if absent && used + key.room() > t.arena.len() as u64 {
+                } else if absent && finite.used() + key.room() > t.arena.len() as u64 {
                     Some(8)
                 } else {
                     None
                 }
             }
-            Call::Reserve(asked) => Some(7).filter(|_| *asked > (t.slots() - finite.len()) as u64),
+            Call::Reserve(keys, _) if *keys > (t.slots() - finite.len()) as u64 => Some(7),
+            Call::Reserve(_, bytes) => Some(8).filter(|_| *bytes > t.arena.len() as u64 - finite.used()),
             _ => None,
         }
     }
@@ -134,12 +165,15 @@ impl Judge {
     /// Holds an answer to the finite map, and changes the map as the call does; `before` is the table before it.
     pub fn judge(&mut self, before: &Table, t: &Table, call: &Call, walk: Option<usize>, answer: &Answer) -> Verdict {
         let due = self.refusal(before, call);
+        let promised = self.promises(call);
+        hold(!promised || matches!(answer, Answer::Fresh { .. }), "reserve said room")?;
+        self.keep_room(call, answer, promised, before == t);
         let finite = match self.finite.as_mut() {
             Some(finite) => finite,
             None => return Ok(()),
         };
         if let Answer::Refused(number) = answer {
-            let decided = matches!(call, Call::Get(_) | Call::Contains(_) | Call::Remove(_) | Call::Insert(..) | Call::Entry(_) | Call::Reserve(_));
+            let decided = matches!(call, Call::Get(_) | Call::Contains(_) | Call::Remove(_) | Call::Insert(..) | Call::Entry(_) | Call::Reserve(..));
             hold(!decided || due == Some(*number), "the refusal")?;
             return hold(*number != 5, "damage in a sound table");
         }
@@ -207,6 +241,7 @@ impl Judge {
     /// A table was made or cleared.
     pub fn made(&mut self, t: &Table) -> Verdict {
         self.forget(None);
+        self.room = None;
         self.finite = Some(Finite::empty(t.kind.values));
         self.judge_memory(t)
     }
@@ -214,6 +249,7 @@ impl Judge {
     /// Another table was copied onto this one.
     pub fn copied(&mut self, from: &Judge, t: &Table) -> Verdict {
         self.forget(None);
+        self.room = None;
         self.finite = from.finite.clone();
         if self.finite.is_some() {
             return self.judge_memory(t);
@@ -228,6 +264,7 @@ impl Judge {
             for key in other.keys() {
                 finite.insert(&key, other.get(&key).unwrap());
             }
+            self.room = None;
             return self.judge_memory(t);
         }
         *self = Judge::default();

@@ -29,6 +29,9 @@ struct Stage<'a> {
 impl Stage<'_> {
     /// The next call: on which table, the call, and which of its walks is stepped.
     fn next(&mut self, random: &mut Random) -> (usize, Call, Option<usize>) {
+        if let Some((on, call)) = self.scene.due(random) {
+            return (on, call, None);
+        }
         let on = usize::from(random.once_in(4));
         let walks = self.judges[on].walks();
         let budget = random.pick(&[1, 1, 2, 3, self.scene.tables[on].slots() as u64]);
@@ -60,6 +63,9 @@ impl Stage<'_> {
         if given.is_some() && *table != before {
             return Err("refused and stored".to_string());
         }
+        if self.judges[on].promises(call) {
+            self.tally.note_told(self.scene.kind, call);
+        }
         self.judge(on, &before, call, walk, &answer)?;
         self.scene.note(call, &answer);
         Ok(())
@@ -84,7 +90,7 @@ fn scenario(random: &mut Random, number: u64, tally: &mut Tally) -> String {
     let scene = Scene::new(random, number);
     let known = |table: &Table| if scene.memory == Memory::Sound && table.sized() { Judge::of_reachable(table) } else { Judge::default() };
     let judges = [known(&scene.tables[0]), known(&scene.tables[1])];
-    let head = format!("scenario {number} {} after 0\n", scene.kind.name);
+    let head = format!("scenario {number} {} after 3\n", scene.kind.name);
     let tables = text::table_text('A', &scene.tables[0]) + &text::table_text('B', &scene.tables[1]);
     let calls = scene.calls;
     let mut stage = Stage { scene, judges, text: head + &tables, tally };
@@ -93,6 +99,9 @@ fn scenario(random: &mut Random, number: u64, tally: &mut Tally) -> String {
         if let Err(words) = stage.play(on, &call, walk) {
             println!("{}the rules and the finite map differ: {words}", stage.text);
             exit(1);
+        }
+        if let (Call::Reserve(..), Some((keys, bytes))) = (&call, stage.judges[on].room()) {
+            stage.scene.spend(random, on, keys, bytes);
         }
     }
     stage.text + "end\n"

@@ -56,7 +56,8 @@ fn sizes(t: &Table, other: &Table, call: &Call) -> bool {
 fn damage(t: &Table, other: &Table, call: &Call) -> bool {
     let every_slot = t.kind.bytes && t.wholly_damaged();
     match call {
-        Call::Len | Call::IsEmpty | Call::Reserve(_) => t.any_damaged(),
+        Call::Len | Call::IsEmpty => t.any_damaged(),
+        Call::Reserve(..) => t.wholly_damaged(),
         Call::Union => t.wholly_damaged() || other.wholly_damaged(),
         Call::Step(walk, budget) => damaged_on_the_way(t, *walk, *budget),
         Call::OccupiedRemove(_, slot) => every_slot || damaged_at(t, *slot),
@@ -70,7 +71,7 @@ fn lacks_slots(t: &Table, other: &Table, call: &Call) -> bool {
     let free = (t.slots() - t.live().len()) as u64;
     match call {
         Call::Insert(key, _) | Call::Entry(key) => free == 0 && !holds(t, key),
-        Call::Reserve(asked) => *asked > free,
+        Call::Reserve(keys, _) => *keys > free,
         Call::Union => absent(t, other).len() as u64 > free,
         _ => false,
     }
@@ -80,6 +81,7 @@ fn lacks_bytes(t: &Table, other: &Table, call: &Call) -> bool {
     let left = t.arena.len() as i64 - t.used() as i64;
     match call {
         Call::Insert(key, _) | Call::Entry(key) => !holds(t, key) && key.room() as i64 > left,
+        Call::Reserve(_, bytes) => i128::from(*bytes) > i128::from(left),
         Call::Union => absent(t, other).iter().map(Key::room).sum::<u64>() as i64 > left,
         _ => false,
     }

@@ -85,7 +85,7 @@ pub enum Call {
     Len,
     IsEmpty,
     Capacity,
-    Reserve(u64),
+    Reserve(u64, u64),
     Get(Key),
     Contains(Key),
     Remove(Key),
@@ -207,7 +207,7 @@ impl Table {
         self.live().iter().map(|i| self.lengths[*i]).sum()
     }
 
-    /// Damage as the calls of byte tables look for it that examine every slot and store.
+    /// Damage as reserve and union look for it, and the calls of byte tables that examine every slot and store.
     pub fn wholly_damaged(&self) -> bool {
         let used = self.used();
         let beyond = self.kind.bytes && (used > self.arena.len() as u64 || self.live().iter().any(|i| self.ends(*i) > used));
@@ -496,9 +496,11 @@ impl Table {
             Call::Len => self.count().map(Answer::Length),
             Call::IsEmpty => self.count().map(|count| Answer::Empty(count == 0)),
             Call::Capacity => refuse_if(!self.sized(), 1).map(|()| Answer::Capacity(self.slots() as u64)),
-            Call::Reserve(asked) => {
-                let free = self.slots() as u64 - self.count()?;
-                refuse_if(*asked > free, 7).map(|()| Answer::Room)
+            Call::Reserve(keys, bytes) => {
+                refuse_if(!self.sized(), 1)?;
+                refuse_if(self.wholly_damaged(), 5)?;
+                refuse_if(*keys > (self.slots() - self.live().len()) as u64, 7)?;
+                refuse_if(*bytes > self.arena.len() as u64 - self.used(), 8).map(|()| Answer::Room)
             }
             Call::Get(_) | Call::Contains(_) | Call::Entry(_) => self.looked_up(call),
             Call::Insert(key, value) => self.insert(key, *value),

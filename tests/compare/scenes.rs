@@ -50,6 +50,8 @@ pub struct Scene {
     refusing: bool,
     /// The slot that the last entry or fill answered.
     last: Option<(Key, u64)>,
+    /// Inserts that reserve said there is room for, and their table.
+    due: Vec<(usize, Call)>,
 }
 
 /// How often each call is chosen, in the order of `Scene::call`: on sound tables, and on damaged ones of right sizes.
@@ -108,7 +110,7 @@ impl Scene {
         let calls = if long_run { 400 } else if large { 12 } else { 20 + random.below(30) };
         let arena = random.pick(&ARENAS);
         let tables = [Scene::table(random, kind, memory, slots, arena, &keys, large), Scene::second(random, kind, memory, slots, arena, &keys)];
-        let mut scene = Scene { kind, memory, tables, keys, calls, refusing: memory != Memory::Sound, last: None };
+        let mut scene = Scene { kind, memory, tables, keys, calls, refusing: memory != Memory::Sound, last: None, due: Vec::new() };
         if random.once_in(6) {
             scene.refusing = true;
             scene.missize(random);
@@ -251,6 +253,45 @@ impl Scene {
         }
     }
 
+    /// Reserve: by the slots, or by what is left, and one more; of byte tables the same for the bytes.
+    fn reserve(&self, random: &mut Random, on: usize) -> Call {
+        let t = &self.tables[on];
+        let slots = t.slots() as u64;
+        let (free, left) = if t.sized() { (slots - t.live().len() as u64, (t.arena.len() as u64).saturating_sub(t.used())) } else { (slots, 0) };
+        let keys = random.pick(&[0, 1, 2, slots / 2, slots + 1, free, free, free + 1, u64::MAX]);
+        let bytes = random.pick(&[0, 1, left / 2, left, left, left + 1, left + 1, u64::MAX]);
+        Call::Reserve(keys, if self.kind.bytes { bytes } else { 0 })
+    }
+
+    /// Puts inserts on the list that reserve said there is room for: different keys that are not there, up to so many and so many bytes; the
+    /// last of so many takes all bytes that are left.
+    pub fn spend(&mut self, random: &mut Random, on: usize, keys: u64, bytes: u64) {
+        let t = &self.tables[on];
+        let mut taken: Vec<Key> = t.live().into_iter().map(|i| t.key_at(i)).collect();
+        let mut left = bytes;
+        for turn in 1..=keys.min(8) {
+            let length = if turn == keys { left.min(255) } else { random.below(left.min(5) + 1) };
+            let key = match self.kind.bytes {
+                true => Key::Bytes((0..length).map(|_| b'a' + random.below(9) as u8).collect()),
+                false => Key::Word(word(random)),
+            };
+            if !taken.contains(&key) {
+                left -= key.room();
+                self.due.push((on, Call::Insert(key.clone(), word(random))));
+                taken.push(key);
+            }
+        }
+    }
+
+    /// The next of these inserts, more often than not.
+    pub fn due(&mut self, random: &mut Random) -> Option<(usize, Call)> {
+        if self.due.is_empty() || random.once_in(3) {
+            return None;
+        }
+        let at = random.below(self.due.len() as u64) as usize;
+        Some(self.due.swap_remove(at))
+    }
+
     /// A call on a table; steps of walks that are kept are not made here.
     pub fn call(&mut self, random: &mut Random, on: usize) -> Call {
         let key = self.key(random, on);
@@ -264,7 +305,7 @@ impl Scene {
             3 => Call::Copy,
             4 => Call::Make,
             5 => Call::Clear,
-            6 => Call::Reserve(random.pick(&[0, 1, 2, slots / 2, slots, slots + 1, u64::MAX])),
+            6 => self.reserve(random, on),
             7 => Call::Get(key),
             8 => Call::Contains(key),
             9 => Call::Remove(key),

@@ -18,7 +18,7 @@ pub fn name(call: &Call) -> &'static str {
         Call::Len => "len",
         Call::IsEmpty => "is_empty",
         Call::Capacity => "capacity",
-        Call::Reserve(_) => "reserve",
+        Call::Reserve(..) => "reserve",
         Call::Get(_) => "get",
         Call::Contains(_) => "contains",
         Call::Remove(_) => "remove",
@@ -43,7 +43,7 @@ fn words(kind: Kind, call: &Call, other: char) -> String {
     let case = |occupied: &bool| if *occupied { "occupied" } else { "vacant" };
     match call {
         Call::Make => " 0".to_string(),
-        Call::Reserve(asked) => format!(" {asked} 0"),
+        Call::Reserve(keys, bytes) => format!(" {keys} {bytes}"),
         Call::Get(k) | Call::Contains(k) | Call::Remove(k) | Call::Entry(k) => format!(" {}", key(k)),
         Call::Insert(k, v) => format!(" {} {}", key(k), value(v)),
         Call::OccupiedGet(k, slot) | Call::OccupiedRemove(k, slot) => format!(" {} {slot}", key(k)),

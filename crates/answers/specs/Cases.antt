@@ -17,7 +17,7 @@ EMPTY = 3
 abbrev pub HOLDS : ℕ
 HOLDS = 4
 
--- reserve: so many slots are not live.
+-- reserve: so many slots are not live, and in byte tables so many arena bytes not used.
 abbrev pub ROOM : ℕ
 ROOM = 5
 

@@ -62,12 +62,13 @@ pub fn reserve(
     lengths: &[u8],
     values: &[u64],
     arena: &[u8],
-    asked: u64,
+    keys: u64,
+    bytes: u64,
 ) -> Reserved
-    ensures { λ r. ⌜ reservedNumbers r ≡ reserveOf maps (before marks offsets lengths values arena) asked ⌝ }
+    ensures { λ r. ⌜ reservedNumbers r ≡ reserveOf maps (before marks offsets lengths values arena) keys bytes ⌝ }
 {
     if marks.len() == values.len() {
-        return byte_set_reads::reserve(marks, offsets, lengths, arena, asked);
+        return byte_set_reads::reserve(marks, offsets, lengths, arena, keys, bytes);
     }
     Reserved::Refused(Refusal::Sizes)
 }

@@ -5,20 +5,18 @@ use mathlib.Core.List.{List}
 use mathlib.Core.Path.{_≡_, refl, sym, _∙_, fun-ext}
 use lib.ListN.{length}
 use Rattle.model.specs.Slots.{total, count}
-use Rattle.model.specs.Store.{live-count, damagedSlots}
-use Rattle.model.specs.Calls.{Or, need, pass, give, lacking, needs, anyDamage, union}
-use Rattle.model.proofs.Cases.{by-bool}
+use Rattle.model.specs.Store.{live-count}
+use Rattle.model.specs.Calls.{Or, need, pass, give, lacking, needs, union}
 use Rattle.answers.specs.declared.Refusal.the-variants.{Sizes}
 use Rattle.kinds.specs.Calls.{sizedOf}
 use Rattle.kinds.specs.Columns.{values}
 use Rattle.kinds.proofs.Alike.{total-alike}
 use Rattle.kinds.specs.Probing.{missedOf}
-use Rattle.byte_slots.specs.Memory.{Spans, ByteMemory, keyAt, slotsOf, bare, fullDamage}
+use Rattle.byte_slots.specs.Memory.{Spans, ByteMemory, keyAt, slotsOf, bare}
 use Rattle.byte_slots.specs.Marks.{markAt}
 use Rattle.byte_slots.specs.Kinds.{maps}
 use Rattle.byte_slots.specs.Probing.{pathOf}
-use Rattle.byte_slots.proofs.Bridge.{used-is, lacking-is}
-use Rattle.byte_slots.proofs.Held.{bare-damaged, unharmed-whole}
+use Rattle.byte_slots.proofs.Bridge.{any-damage-is, used-is, lacking-is}
 use Rattle.byte_slots.proofs.Marks.{slots-cells}
 use Rattle.byte_map_union.specs.declared.Planned.the-variants.{Refused}
 use Rattle.byte_map_union.specs.Needs.{lackOf, tableNeeds, roomOf, planned, planOf}
@@ -37,13 +35,6 @@ needs-are g l r =
 live-is : (m : ByteMemory values) → live-count maps m ≡ count (bare (m .spans)) (length (m .spans .marks))
 unfolding live-count
 live-is m = total-bare (λ k. 1) (m .spans) (values .read (m .words)) (length (m .spans .marks))
-
--- full damage is the damage that the union looks for
-ruined-is : (m : ByteMemory values) → anyDamage maps m ≡ fullDamage (m .spans)
-unfolding anyDamage damagedSlots
-ruined-is m = by-bool (fullDamage (m .spans))
-    (λ h. rw h (by-bool (damagedSlots maps m) (λ t. rw t) (λ t. rw t)))
-    (λ h. rw (h, bare-damaged (m .spans) (values .read (m .words)) (length (m .spans .marks)), unharmed-whole (m .spans) h))
 
 -- an answer's value behind a test
 give-need : {A B : Type 0} (v : B) (b : Bool) (n : ℕ) (a : Or A) → give v (need b n a) ≡ need b n (give v a)
@@ -65,4 +56,4 @@ module _ (l r : ByteMemory values) {b : Bool} (p : b ≡ sizedOf maps l) where
     -- the rest of the tests
     pub room-plan : {o : Or ℕ} → c ≡ true → o ≡ roomOf (l .spans) (r .spans) → o ≡ planOf l r
     unfolding planOf roomOf tableNeeds union need pass give sizedOf
-    room-plan t e = e ∙ (rw (sym p ∙ q, sym s ∙ t, ruined-is l, ruined-is r, needs-are (λ k. 1) l r, needs-are length l r, live-is l, used-is values l, give-need, give-need, give-need, give-need))
+    room-plan t e = e ∙ (rw (sym p ∙ q, sym s ∙ t, any-damage-is values l, any-damage-is values r, needs-are (λ k. 1) l r, needs-are length l r, live-is l, used-is values l, give-need, give-need, give-need, give-need))

@@ -1,15 +1,14 @@
 -- What the union of byte maps needs of its left, slot by slot of its right, and its tests of two tables of right sizes.
-use Prim.Native.Nat.{ℕ, zero, suc, _+_, _-_}
+use Prim.Native.Nat.{ℕ, _-_}
 use mathlib.Core.Bool.{cond, not}
 use mathlib.Core.List.{List}
 use lib.Dec.{leb}
-use lib.ListN.{length, getD}
+use lib.ListN.{length}
 use Rattle.model.specs.Slots.{weigh, total, count}
 use Rattle.model.specs.Calls.{Or, no, ok, need, give, union}
 use Rattle.answers.specs.Refusals.{numberOf}
 use Rattle.kinds.specs.declared.Probed.{Probed}
 use Rattle.kinds.specs.Columns.{values}
-use Rattle.kinds.specs.Marks.{counted}
 use Rattle.kinds.specs.Probing.{missedOf}
 use Rattle.byte_slots.specs.Memory.{Spans, ByteMemory, bare, usedOf, fullDamage}
 use Rattle.byte_slots.specs.Kinds.{maps}
@@ -41,11 +40,6 @@ module _ (l r : Spans) where
       need (not (fullDamage l)) 5 (need (not (fullDamage r)) 5
       (need (leb (tableNeeds (length (r .marks)) .slots) (length (l .marks) - count (bare l) (length (l .marks)))) 7
       (need (leb (tableNeeds (length (r .marks)) .bytes) (length (l .arena) - usedOf l)) 8 (ok (usedOf l)))))
-
--- How many of the first n marks are 1.
-unfoldable pub liveMarks : List ℕ → ℕ → ℕ
-liveMarks marks zero = 0
-liveMarks marks (suc n) = liveMarks marks n + counted (getD marks n 0)
 
 -- What a plan says: the left's `used`, or a refusal's number.
 unfoldable pub planned : Planned → Or ℕ

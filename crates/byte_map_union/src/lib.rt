@@ -10,18 +10,20 @@ ghost use Rattle.kinds.specs.Told.{told};
 ghost use Rattle.byte_slots.specs.Memory.{spansNow, spansBefore, fitting};
 ghost use Rattle.byte_slots.specs.Kinds.{maps};
 ghost use Rattle.byte_slots.specs.Maps.{mapNow, before, after};
-ghost use Rattle.byte_map_union.specs.Needs.{neededBy, slotNeeds, tableNeeds, liveMarks, planned, roomOf, planOf};
+ghost use Rattle.byte_map_union.specs.Needs.{neededBy, slotNeeds, tableNeeds, planned, roomOf, planOf};
 use answers::Outcome;
 use answers::Refusal;
+use answers::Reserved;
 use byte_slots::Surveyed;
 use byte_slots::key_at;
+use byte_slots::live_marks;
 use byte_slots::map_fits;
 use byte_slots::mark_at;
 use byte_slots::probe;
 use byte_slots::survey;
 use byte_store::map_store_all;
 use kinds::Probed;
-use kinds::count_mark;
+use kinds::reserved_by;
 
 // What the left has to have room for: so many slots, and so many bytes.
 pub struct Needed {
@@ -114,19 +116,6 @@ fn table_needs(
     Needed { slots, bytes }
 }
 
-// How many marks are 1: the live slots, where none is damaged.
-fn live_marks(marks: &[u8]) -> usize
-    ensures { λ r. ⌜ r ≡ liveMarks (now (marks .entry)) (length (now (marks .entry))) ⌝ }
-{
-    let mut live = 0;
-    let mut i = 0;
-    while i < marks.len() {
-        live += count_mark(marks[i]);
-        i += 1;
-    }
-    live
-}
-
 // The union's tests of two tables of right sizes: damage in either, then slots, then bytes.
 fn room(
     marks: &[u8],
@@ -159,13 +148,13 @@ fn room(
         right_lengths,
         right_arena,
     );
-    if needed.slots <= marks.len() - live_marks(marks) {
-        if needed.bytes <= arena.len() - used {
-            return Planned::Go(used);
-        }
-        return Planned::Refused(Refusal::NoBytes);
+    let slots = marks.len() - live_marks(marks);
+    let left = arena.len() - used;
+    let reserved = reserved_by(slots, left, needed.slots as u64, needed.bytes as u64);
+    match reserved {
+        Reserved::Room => Planned::Go(used),
+        Reserved::Refused(why) => Planned::Refused(why),
     }
-    Planned::Refused(Refusal::NoSlot)
 }
 
 // The union's tests.

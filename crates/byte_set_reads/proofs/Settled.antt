@@ -24,8 +24,8 @@ module _ (m : ByteMemory nothing) where
   is-empty-settled = settled emptinessNumbers-injective
 
   -- `reserve`.
-  pub reserve-settled : (asked : ℕ) → Settled reservedNumbers (reserveOf sets m asked)
-  reserve-settled asked = settled reservedNumbers-injective
+  pub reserve-settled : (keys bytes : ℕ) → Settled reservedNumbers (reserveOf sets m keys bytes)
+  reserve-settled keys bytes = settled reservedNumbers-injective
 
   -- `get`.
   pub get-settled : (k : List ℕ) → Settled spannedNumbers (setGetOf m k)

@@ -10,10 +10,13 @@ use answers::Emptiness;
 use answers::Refusal;
 use answers::Reserved;
 use answers::Spanned;
+use byte_slots::Surveyed;
 use byte_slots::len_at;
+use byte_slots::live_marks;
 use byte_slots::offset_at;
 use kinds::Probed;
 use kinds::Scanned;
+use kinds::reserved_by;
 
 // The number of slots.
 pub fn capacity(marks: &[u8], offsets: &[u16], lengths: &[u8], arena: &[u8]) -> Counted
@@ -55,20 +58,26 @@ pub fn is_empty(marks: &[u8], offsets: &[u16], lengths: &[u8], arena: &[u8]) -> 
     }
 }
 
-// Whether so many slots are not live.
-pub fn reserve(marks: &[u8], offsets: &[u16], lengths: &[u8], arena: &[u8], asked: u64) -> Reserved
-    ensures { λ r. ⌜ reservedNumbers r ≡ reserveOf sets (before marks offsets lengths arena) asked ⌝ }
+// Whether so many slots are not live, and so many arena bytes not used; damage as insert finds it.
+pub fn reserve(
+    marks: &[u8],
+    offsets: &[u16],
+    lengths: &[u8],
+    arena: &[u8],
+    keys: u64,
+    bytes: u64,
+) -> Reserved
+    ensures { λ r. ⌜ reservedNumbers r ≡ reserveOf sets (before marks offsets lengths arena) keys bytes ⌝ }
 {
-    let count = len(marks, offsets, lengths, arena);
-    match count {
-        Counted::Count(n) => {
-            if asked <= (marks.len() - n) as u64 {
-                return Reserved::Room;
-            }
-            Reserved::Refused(Refusal::NoSlot)
-        }
-        Counted::Refused(r) => Reserved::Refused(r),
+    if byte_slots::fits(marks, offsets, lengths, arena) {
+        let found = byte_slots::survey(marks, offsets, lengths, arena);
+        let Surveyed::Used(used) = found else {
+            return Reserved::Refused(Refusal::Damaged);
+        };
+        let slots = marks.len() - live_marks(marks);
+        return reserved_by(slots, arena.len() - used, keys, bytes);
     }
+    Reserved::Refused(Refusal::Sizes)
 }
 
 // The stored key's offset and length where the key is there, with its slot and the examined number.

@@ -8,7 +8,7 @@ use borrow.Author.Tests.{eqb-true}
 use lib.Dec.{eqb}
 use lib.ListN.{length}
 use Rattle.model.specs.Store.{path, live-count, used, damagedSlots}
-use Rattle.model.specs.Calls.{Or, no, ok, need, pass, Seen, found, absent, Spot, occupied, vacant, seenBy, spotBy, get, entry, remove, rule, lacking}
+use Rattle.model.specs.Calls.{Or, no, ok, need, pass, Seen, found, absent, Spot, occupied, vacant, seenBy, spotBy, get, entry, remove, rule, lacking, anyDamage}
 use Rattle.model.proofs.Cases.{by-bool, clash}
 use Rattle.digest.specs.Home.{homeOf, keyFits}
 use Rattle.digest.proofs.Bounds.{home-below}
@@ -37,6 +37,7 @@ use Rattle.byte_slots.specs.Marks.{markAt}
 use Rattle.byte_slots.specs.Planning.{insertPlanBy, roomFor, planningKept, keptPlan, planningInsert, removePlanBy, planningRemove}
 use Rattle.byte_slots.specs.Probing.{pathFrom, pathOf, probing}
 use Rattle.byte_slots.specs.Scanning.{scanning}
+use Rattle.byte_slots.proofs.Held.{bare-damaged, unharmed-whole}
 use Rattle.byte_slots.proofs.Marks.{slots-cells}
 use Rattle.byte_slots.proofs.Sizes.{Sized, fitting-says}
 
@@ -98,6 +99,13 @@ module _ {W : Type 0} (C : Column W) (m : ByteMemory C) where
   pub short-refused : {A : Type 0} (a : Or A) → C .long (m .words) (length (m .spans .marks)) ≡ false → need (byteStore C .sized m) 1 a ≡ no 1
   unfolding need
   short-refused a e = rw (sized-short e)
+
+  -- what examining every slot shows is the damage that storing calls find
+  pub any-damage-is : anyDamage (byteStore C) m ≡ fullDamage (m .spans)
+  unfolding anyDamage damagedSlots
+  any-damage-is = by-bool (fullDamage (m .spans))
+      (λ h. rw h (by-bool (damagedSlots (byteStore C) m) (λ t. rw t) (λ t. rw t)))
+      (λ h. rw (h, bare-damaged (m .spans) (C .read (m .words)) (length (m .spans .marks)), unharmed-whole (m .spans) h))
 
   -- `used`, whatever the values
   pub used-is : used (byteStore C) m ≡ usedOf (m .spans)

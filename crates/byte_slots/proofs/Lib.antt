@@ -12,6 +12,7 @@ pub mod Calls
 pub mod Eights
 pub mod Equal
 pub mod Marks
+pub mod Lives
 pub mod MapSizes
 pub mod Planning
 pub mod Plans

@@ -14,7 +14,7 @@ ghost use Rattle.byte_slots.specs.Memory.{part, spansNow, spansBefore, f
 ghost use Rattle.byte_slots.specs.Marks.{markAt};
 ghost use Rattle.byte_slots.specs.Probing.{sightAt, pathFrom, probing};
 ghost use Rattle.byte_slots.specs.Planning.{insertPlanBy, planningKept, planningInsert, planningMapInsert, removePlanBy, planningRemove, planningMapRemove};
-ghost use Rattle.byte_slots.specs.Scanning.{scanning, nexting};
+ghost use Rattle.byte_slots.specs.Scanning.{scanning, liveMarks, nexting};
 ghost use Rattle.byte_slots.specs.Seeking.{probingMap};
 ghost use Rattle.byte_slots.specs.Surveying.{higherEnd, surveying};
 ghost use Rattle.byte_slots.specs.Steps.{setAhead, mapAhead};
@@ -328,6 +328,19 @@ pub fn next_live(
         i += 1;
     }
     Next::Nothing
+}
+
+// How many marks are 1: the live slots, where none is damaged.
+pub fn live_marks(marks: &[u8]) -> usize
+    ensures { λ r. ⌜ r ≡ liveMarks (now (marks .entry)) (length (now (marks .entry))) ⌝ }
+{
+    let mut live = 0;
+    let mut i = 0;
+    while i < marks.len() {
+        live += count_mark(marks[i]);
+        i += 1;
+    }
+    live
 }
 
 // The largest end of a live span so far, after one more.

@@ -39,8 +39,8 @@ module _ (m : IntMemory values) where
     pub empty-short : emptinessNumbers (emptiness.Refused Sizes) ≡ isEmptyOf maps m
     empty-short = empty-unsized maps m (map-short m h)
 
-    pub reserve-short : (asked : ℕ) → reservedNumbers (reserved.Refused Sizes) ≡ reserveOf maps m asked
-    reserve-short asked = reserve-unsized maps m (map-short m h) asked
+    pub reserve-short : (asked : ℕ) → reservedNumbers (reserved.Refused Sizes) ≡ reserveOf maps m asked 0
+    reserve-short asked = reserve-unsized maps m (map-short m h) asked 0
 
     pub contains-short : (k : ℕ) → containedNumbers (contained.Refused Sizes) ≡ containsOf maps m k
     contains-short k = contains-unsized maps m (map-short m h) k

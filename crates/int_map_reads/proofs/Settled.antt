@@ -23,7 +23,7 @@ module _ (m : IntMemory values) where
   is-empty-settled = settled emptinessNumbers-injective
 
   -- `reserve`.
-  pub reserve-settled : (asked : ℕ) → Settled reservedNumbers (reserveOf maps m asked)
+  pub reserve-settled : (asked : ℕ) → Settled reservedNumbers (reserveOf maps m asked 0)
   reserve-settled asked = settled reservedNumbers-injective
 
   -- `get`.

@@ -43,7 +43,7 @@ pub fn is_empty(marks: &[u8], keys: &[u64], values: &[u64]) -> Emptiness
 
 // Whether so many slots are not live.
 pub fn reserve(marks: &[u8], keys: &[u64], values: &[u64], asked: u64) -> Reserved
-    ensures { λ r. ⌜ reservedNumbers r ≡ reserveOf maps (before marks keys values) asked ⌝ }
+    ensures { λ r. ⌜ reservedNumbers r ≡ reserveOf maps (before marks keys values) asked 0 ⌝ }
 {
     if marks.len() == values.len() {
         return int_set_reads::reserve(marks, keys, asked);

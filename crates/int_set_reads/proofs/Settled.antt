@@ -24,7 +24,7 @@ module _ (m : IntMemory nothing) where
   is-empty-settled = settled emptinessNumbers-injective
 
   -- `reserve`.
-  pub reserve-settled : (asked : ℕ) → Settled reservedNumbers (reserveOf sets m asked)
+  pub reserve-settled : (asked : ℕ) → Settled reservedNumbers (reserveOf sets m asked 0)
   reserve-settled asked = settled reservedNumbers-injective
 
   -- `get`.

@@ -55,7 +55,7 @@ pub fn is_empty(marks: &[u8], keys: &[u64]) -> Emptiness
 
 // Whether so many slots are not live.
 pub fn reserve(marks: &[u8], keys: &[u64], asked: u64) -> Reserved
-    ensures { λ r. ⌜ reservedNumbers r ≡ reserveOf sets (before marks keys) asked ⌝ }
+    ensures { λ r. ⌜ reservedNumbers r ≡ reserveOf sets (before marks keys) asked 0 ⌝ }
 {
     let count = len(marks, keys);
     match count {

@@ -2,7 +2,7 @@
 use Prim.Native.Nat.{ℕ, zero, suc}
 use mathlib.Core.Path.{_≡_, refl}
 use Rattle.model.specs.Slots.{isDamaged, weigh, total, anyDamaged}
-use Rattle.model.specs.Store.{Store, live-count, damagedSlots}
+use Rattle.model.specs.Store.{Store, live-count, used, damagedSlots}
 use Rattle.kinds.specs.Marks.{cell, cellsOf}
 use Rattle.kinds.proofs.Beside.{Beside}
 
@@ -33,11 +33,14 @@ module _ {K W U : Type 0} where
     total-alike w (suc n) = rw (weigh-alike w (mark n) (key n) (v n) (u n), total-alike w n)
 
     -- such tables of one size stand beside each other
-    pub stand-beside : (M : Store K W) (N : Store K U) {m : M .State} {n : N .State} → M .slots m ≡ cellsOf mark key v → N .slots n ≡ cellsOf mark key u → M .sized m ≡ N .sized n → M .size m ≡ N .size n → Beside M N m n
-    unfolding damagedSlots live-count
-    stand-beside M N {m} {n} p q s z = record {
+    pub stand-beside : (M : Store K W) (N : Store K U) {m : M .State} {n : N .State} → M .slots m ≡ cellsOf mark key v → N .slots n ≡ cellsOf mark key u → M .sized m ≡ N .sized n → M .size m ≡ N .size n → M .bytes m ≡ N .bytes n → M .damagedFully m ≡ N .damagedFully n → M .weight ≡ N .weight → Beside M N m n
+    unfolding damagedSlots live-count used
+    stand-beside M N {m} {n} p q s z b h w = record {
       sized = s;
       size = z;
       damage = rw (p, q, z) (damaged-alike (N .size n));
       lives = rw (p, q, z) (total-alike (λ k. 1) (N .size n));
+      bytes = b;
+      fullDamage = h;
+      weighs = rw (p, q, z, w) (total-alike (N .weight) (N .size n));
     }

@@ -4,8 +4,8 @@ use mathlib.Core.Bool.{true, false}
 use mathlib.Core.Path.{_≡_, sym, ap}
 use native.Mathlib.Omega.{arith}
 use borrow.Author.Tests.{ne-eqb, le-leb, lt-leb}
-use Rattle.model.specs.Calls.{Or, no, ok, need, length, reserve}
-use Rattle.model.specs.Store.{Store, live-count, damagedSlots}
+use Rattle.model.specs.Calls.{Or, no, ok, need, length, anyDamage, reserve}
+use Rattle.model.specs.Store.{Store, live-count, used, damagedSlots}
 use Rattle.model.proofs.Cases.{by-bool, clash}
 use Rattle.model.proofs.Slots.{count-high}
 use Rattle.answers.specs.declared.Refusal.{Refusal}
@@ -39,9 +39,9 @@ module _ {K W : Type 0} (M : Store K W) (m : M .State) where
       (λ h. (s, h, cc (rw (s, h) at e))))
       (λ s. clash (cc (rw s at e)))
 
-  reserve-no : (asked : ℕ) {i : ℕ} → length M m ≡ no i → reserve M m asked ≡ no i
-  unfolding length reserve need
-  reserve-no asked e = by-bool (M .sized m)
+  reserve-no : (n b : ℕ) {i : ℕ} → length M m ≡ no i → reserve M m n b ≡ no i
+  unfolding length reserve need anyDamage
+  reserve-no n b e = by-bool (M .sized m)
       (λ s. by-bool (damagedSlots M m)
       (λ h. rw (s, h) (cc (rw (s, h) at e)))
       (λ h. clash (cc (rw (s, h) at e))))
@@ -77,14 +77,16 @@ module _ {K W : Type 0} (M : Store K W) (m : M .State) where
     unfolding live-count
     count-within q = let (a, b, l) = sound-count q in omega (arith, count-high (M .slots m) (M .size m))
 
-    pub reserve-room : {n asked : ℕ} → r ≡ counted.Count n → asked ≤ M .size m - n → reservedNumbers reserved.Room ≡ reserveOf M m asked
-    unfolding reserveOf reserve need roomSaid reservedNumbers
-    reserve-room {n} {asked} q l = let (a, b, e) = sound-count q in rw (a, b, e, le-leb asked (M .size m - n) l)
+    -- of a table whose keys have no bytes, and whose storing calls find no other damage
+    module _ (h : M .damagedFully m ≡ false) where
+      pub reserve-room : {n asked : ℕ} → r ≡ counted.Count n → asked ≤ M .size m - n → reservedNumbers reserved.Room ≡ reserveOf M m asked 0
+      unfolding reserveOf reserve anyDamage need roomSaid reservedNumbers
+      reserve-room {n} {asked} q l = let (a, b, e) = sound-count q in rw (a, b, h, e, le-leb asked (M .size m - n) l, le-leb 0 (M .bytes m - used M m) (omega arith))
 
-    pub reserve-none : {n asked : ℕ} → r ≡ counted.Count n → M .size m - n < asked → reservedNumbers (reserved.Refused NoSlot) ≡ reserveOf M m asked
-    unfolding reserveOf reserve need roomSaid reservedNumbers
-    reserve-none {n} {asked} q l = let (a, b, e) = sound-count q in rw (a, b, e, lt-leb asked (M .size m - n) l)
+      pub reserve-none : {n asked : ℕ} → r ≡ counted.Count n → M .size m - n < asked → reservedNumbers (reserved.Refused NoSlot) ≡ reserveOf M m asked 0
+      unfolding reserveOf reserve anyDamage need roomSaid reservedNumbers
+      reserve-none {n} {asked} q l = let (a, b, e) = sound-count q in rw (a, b, h, e, lt-leb asked (M .size m - n) l)
 
-    pub reserve-not : (asked : ℕ) {x : Refusal} → r ≡ counted.Refused x → reservedNumbers (reserved.Refused x) ≡ reserveOf M m asked
+    pub reserve-not : (n b : ℕ) {x : Refusal} → r ≡ counted.Refused x → reservedNumbers (reserved.Refused x) ≡ reserveOf M m n b
     unfolding reserveOf roomSaid reservedNumbers
-    reserve-not asked {x} q = rw (reserve-no asked (counted-no q))
+    reserve-not n b {x} q = rw (reserve-no n b (counted-no q))

@@ -7,6 +7,7 @@ pub mod Copying
 pub mod Counts
 pub mod LentWalks
 pub mod Moved
+pub mod Rooms
 pub mod Scanning
 pub mod Settled
 pub mod Sizing
@@ -16,4 +17,5 @@ pub mod Simple
 pub mod Told
 pub mod Trail
 pub mod Owed
+pub mod Reserving
 pub mod Uniting

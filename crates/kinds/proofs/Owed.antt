@@ -29,7 +29,7 @@ use Rattle.model.proofs.Exact.{seenFor, spotFor, heldFor, seen-is, spot-is, gri
 use Rattle.model.proofs.Numbered.{Numbered, numbered-no, numbered-ok, get-numbered, remove-numbered, entry-numbered}
 use Rattle.answers.specs.Cases.{NOTHING, WALK-DONE}
 use Rattle.answers.specs.declared.Numbers.{Numbers}
-use Rattle.kinds.specs.Owed.{refusing, moving, unless, byMap, lastSlot, openSlot, admitting, copying, looking, placing, holding, vacates, opening, lacked, joining, OwesStep, no-budget, beyond, ended, hands, passes}
+use Rattle.kinds.specs.Owed.{refusing, moving, unless, byMap, lastSlot, openSlot, admitting, copying, looking, placing, reserving, holding, vacates, opening, lacked, joining, OwesStep, no-budget, beyond, ended, hands, passes}
 
 -- what is said of a refusal: its number, and zeros elsewhere
 abbrev pub Plainly : {A : Type 0} → (Or A → Numbers) → Type 0
@@ -120,9 +120,11 @@ module _ {K W : Type 0} (M : Store K W) (L : Lawful M) (m : M .State) (f : Finit
   unfolding capacity need
   capacity-owed said n p = rw (s .soundTable .sized) p
 
-  pub reserve-owed : (said : Or (Unit {0}) → Numbers) (n : Numbers) → Plainly said → said (ok tt) ≡ n → (a : ℕ) → said (reserve M m a) ≡ cond (leb a (M .size m - len f)) n (refusing 7 0)
-  unfolding need
-  reserve-owed said n z p a = rw (reserve-is M L m f s a) (by-bool (leb a (M .size m - len f)) (λ e. rw e p) (λ e. rw e (z 7)))
+  pub reserve-owed : (said : Or (Unit {0}) → Numbers) (n : Numbers) → Plainly said → said (ok tt) ≡ n → (a b : ℕ) → said (reserve M m a b) ≡ reserving M m f a b n
+  unfolding reserving need
+  reserve-owed said n z p a b = rw (reserve-is M L m f s a b) (by-bool (leb a (M .size m - len f))
+      (λ e. by-bool (leb b (M .bytes m - mass (M .weight) (f .dom))) (λ d. rw (e, d) p) (λ d. rw (e, d) (z 8)))
+      (λ e. rw e (z 7)))
 
   pub copy-owed : (said : Or (Unit {0}) → Numbers) (n : Numbers) → Plainly said → said (ok tt) ≡ n → (o : M .State) → said (copy M m o) ≡ copying M m o n
   unfolding copy copying need

@@ -42,7 +42,8 @@ module _ {K W : Type 0} where
   cell-passed (suc (suc zero)) k v l h = refl
   cell-passed (suc (suc (suc m))) k v l h = let z : ⊥ = omega arith in absurd z
 
-  counted-weighs : (m : ℕ) (k : K) (v : W) → counted m ≡ weigh (λ x. 1) (cell m k v)
+  -- a mark counts what its slot weighs
+  pub counted-weighs : (m : ℕ) (k : K) (v : W) → counted m ≡ weigh (λ x. 1) (cell m k v)
   unfolding counted cell weigh
   counted-weighs zero k v = refl
   counted-weighs (suc zero) k v = refl

@@ -38,9 +38,9 @@ module _ {K W : Type 0} (M : Store K W) (m : M .State) where
     unfolding isEmptyOf length need emptySaid emptinessNumbers
     empty-unsized = rw e
 
-    pub reserve-unsized : (asked : ℕ) → reservedNumbers (reserved.Refused Sizes) ≡ reserveOf M m asked
+    pub reserve-unsized : (n b : ℕ) → reservedNumbers (reserved.Refused Sizes) ≡ reserveOf M m n b
     unfolding reserveOf reserve need roomSaid reservedNumbers
-    reserve-unsized asked = rw e
+    reserve-unsized n b = rw e
 
     pub contains-unsized : (k : K) → containedNumbers (contained.Refused Sizes) ≡ containsOf M m k
     unfolding containsOf get need containedSaid containedNumbers

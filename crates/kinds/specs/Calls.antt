@@ -28,9 +28,9 @@ module _ {K W : Type 0} (M : Store K W) where
   unfoldable pub isEmptyOf : M .State → Numbers
   isEmptyOf m = emptySaid (length M m)
 
-  -- reserve: room for so many keys.
-  unfoldable pub reserveOf : M .State → ℕ → Numbers
-  reserveOf m n = roomSaid (reserve M m n)
+  -- reserve: room for so many keys, of so many bytes in all.
+  unfoldable pub reserveOf : M .State → ℕ → ℕ → Numbers
+  reserveOf m n b = roomSaid (reserve M m n b)
 
   -- contains: whether the key is there.
   unfoldable pub containsOf : M .State → K → Numbers

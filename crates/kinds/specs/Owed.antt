@@ -7,7 +7,7 @@ use mathlib.Core.Path.{_≡_}
 use lib.Dec.{leb, eqb}
 use Rattle.model.specs.Slots.{live, total}
 use Rattle.model.specs.Path.{freeAt}
-use Rattle.model.specs.Finite.{Finite, contains, mass}
+use Rattle.model.specs.Finite.{Finite, contains, mass, len}
 use Rattle.model.specs.Store.{Store, slotAt, pathLength}
 use Rattle.model.specs.Calls.{Handle, on-occupied, on-vacant, anyDamage}
 use Rattle.model.specs.Demand2.{grown, holdsNow}
@@ -81,6 +81,10 @@ module _ {K W : Type 0} (M : Store K W) (m : M .State) where
     -- insert and entry: the same, and an absent key's slot; refused where it does not fit.
     unfoldable pub placing : K → (W → ℕ → ℕ → Numbers) → (ℕ → ℕ → Numbers) → Numbers
     placing k present fresh = unless (M .kept k) (admitting (grown M f k) (byMap (f .look k) (λ v. present v (lastSlot k) (pathLength M m k)) (fresh (openSlot k) (pathLength M m k))))
+
+    -- reserve: slots and bytes, as many as are left beside the map's keys: 7, then 8.
+    unfoldable pub reserving : ℕ → ℕ → Numbers → Numbers
+    reserving n b r = cond (leb n (M .size m - len f)) (cond (leb b (M .bytes m - mass (M .weight) (f .dom))) r (refusing 8 0)) (refusing 7 0)
 
     -- An occupied handle: the key's value where its slot is live and holds the key, else 6.
     unfoldable pub holding : ℕ → K → (W → Numbers) → Numbers

@@ -4,8 +4,10 @@ ghost use Prim.Native.Nat.{_≤_, _<_};
 ghost use Rattle.model.specs.Walk.{reachOf};
 ghost use Rattle.kinds.specs.Marks.{counted};
 ghost use Rattle.kinds.specs.Probing.{firstFree, nextSlot, ended};
+ghost use Rattle.kinds.specs.Rooms.{reservedBy};
 ghost use Rattle.kinds.specs.Stepping.{wayOf, aheadBy};
 use answers::Refusal;
+use answers::Reserved;
 
 // What the look at a slot of a path says: never used, freed, damaged, live with the key, or live with another.
 pub enum Sight {
@@ -91,6 +93,19 @@ pub fn count_mark(mark: u8) -> usize
         return 1;
     }
     0
+}
+
+// Whether so many slots and bytes are enough for so many keys of so many bytes: slots first.
+pub fn reserved_by(slots: usize, left: usize, keys: u64, bytes: u64) -> Reserved
+    ensures { λ r. ⌜ r ≡ reservedBy slots left keys bytes ⌝ }
+{
+    if keys <= slots as u64 {
+        if bytes <= left as u64 {
+            return Reserved::Room;
+        }
+        return Reserved::Refused(Refusal::NoBytes);
+    }
+    Reserved::Refused(Refusal::NoSlot)
 }
 
 // How many slots a step of a walk may look at: its budget, and no more than there are from here.

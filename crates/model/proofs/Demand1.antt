@@ -15,7 +15,7 @@ use Rattle.model.specs.Store.{Store, path, slotAt, pathLength, live-coun
 use Rattle.model.specs.Calls.{Or, no, ok, need, pass, give, Spot, occupied, vacant, on-occupied, on-vacant, seenBy, spotBy, get, entry, put-spot, remove, capacity, length, reserve, copy, needs, anyDamage, union, heldOn, heldAt, occupied-get, occupied-remove, goodFor, vacancy, vacant-insert, or-insert, insert-entry}
 use Rattle.model.specs.Walk.{halts, halted, reachOf, stepWithin, pace, step}
 use Rattle.model.specs.Machine.{Own, makes, clears, capacities, lens, empties, reserves, gets, contains-keys, removes, entries, inserts, puts, occupied-gets, occupied-removes, occupied-sets, vacant-inserts, or-inserts, insert-entries, Call, own, copies, unions, steps, Answer, fine, number, truth, seen, spot, value, stepped, report, World, tells, stepping, answer}
-use Rattle.model.specs.Demand1.{Row, row, First, none-applies, applies-here, goes-on, refusal, numberIn, DamagedOnPath, Absent, DamagedSomewhere, sized-rows, count-rows, reserve-rows, look-rows, remove-rows, place-rows, put-rows, grip-rows, drop-rows, open-rows, step-rows, copy-rows, union-rows, rows}
+use Rattle.model.specs.Demand1.{Row, row, First, none-applies, applies-here, goes-on, refusal, numberIn, DamagedOnPath, Absent, DamagedSomewhere, AnyDamage, sized-rows, count-rows, reserve-rows, look-rows, remove-rows, place-rows, put-rows, grip-rows, drop-rows, open-rows, step-rows, copy-rows, union-rows, rows}
 use Rattle.model.proofs.Cases.{by-bool, by-lt, by-eq, by-same, clash}
 use Rattle.model.proofs.Slots.{damaged-where, damaged-bad}
 use Rattle.model.proofs.Path.{from-low, from-before, from-here, Ended, find-ended, ended-hit, ended-never, ended-round, ended-bad, examined-stop, miss-free}
@@ -233,12 +233,25 @@ module _ {K W : Type 0} (M : Store K W) (homes : (m : M .State) (k : K) → M .s
       go (told-miss e f p b a) = first-good s k b (spotBy M m k (path M m k)) q (λ h. not-five f e k (rw p at h))
       go (told-hurt p b a) = rw p (here b)
 
-  -- length, emptiness and reserve: some slot is damaged
+  -- length and emptiness: some slot is damaged
   first-whole : {A : Type 0} (a : Or A) (rs : List Row) → First rs (numberIn a) → First (row 5 (DamagedSomewhere M m) ∷ rs) (numberIn (need (not (damagedSlots M m)) 5 a))
   first-whole a rs f = first-need (not (damagedSlots M m)) 5 a (DamagedSomewhere M m) rs
       (λ e. hurt-somewhere M m (not-false (damagedSlots M m) e))
       (λ e b. somewhere-hurt M m b (not-true (damagedSlots M m) e))
       (λ e. f)
+
+-- reserve and union: examining every slot shows damage
+module _ {K W : Type 0} (M : Store K W) (m : M .State) where
+  pub ruined-is : anyDamage M m ≡ true → AnyDamage M m
+  unfolding anyDamage
+  ruined-is e = by-bool (damagedSlots M m) (λ h. inl (hurt-somewhere M m h)) (λ h. inr (rw h at e))
+
+  is-ruined : anyDamage M m ≡ false → AnyDamage M m → ⊥
+  unfolding anyDamage
+  is-ruined e (inl b) = by-bool (damagedSlots M m) (λ h. let c : _≡_ {A = Bool} true false = rw h at e in clash cc) (λ h. somewhere-hurt M m b h)
+  is-ruined e (inr h) = by-bool (damagedSlots M m)
+      (λ x. let c : _≡_ {A = Bool} true false = rw x at e in clash cc)
+      (λ x. let c : _≡_ {A = Bool} true false = sym h ∙ (rw x at e) in clash cc)
 
 -- where the tests before the path pass, entry is what the path says
 pub entry-clear : {K W : Type 0} (M : Store K W) (m : M .State) (k : K) → M .sized m ≡ true → M .kept k ≡ 0 → M .damagedFully m ≡ false → entry M m k ≡ spotBy M m k (path M m k)
@@ -280,12 +293,13 @@ module _ {K W : Type 0} (M : Store K W) (homes : (m : M .State) (k : K) → M .s
     unfolding length numberIn
     counted-rows = first-sized (M .sized m) _ _ (λ z. first-whole M homes m _ _ none-applies)
 
-    reserved-rows : (n : ℕ) → First (reserve-rows M m n) (numberIn (reserve M m n))
+    reserved-rows : (n b : ℕ) → First (reserve-rows M m n b) (numberIn (reserve M m n b))
     unfolding reserve numberIn
-    reserved-rows n = first-sized (M .sized m) _ _ (λ z. first-whole M homes m _ _ (first-need (leb n (M .size m - live-count M m)) 7 _ _ _
-        (λ e. leb-false n (M .size m - live-count M m) e)
-        (λ e l. omega (arith, leb-true n (M .size m - live-count M m) e))
-        (λ e. none-applies)))
+    reserved-rows n b = first-sized (M .sized m) _ _
+        (λ z. first-need (not (anyDamage M m)) 5 _ _ _ (λ e. ruined-is M m (not-false (anyDamage M m) e)) (λ e f. is-ruined M m (not-true (anyDamage M m) e) f)
+        (λ y. first-need (leb n (M .size m - live-count M m)) 7 _ _ _ (λ e. leb-false n (M .size m - live-count M m) e) (λ e l. omega (arith, leb-true n (M .size m - live-count M m) e))
+        (λ x. first-need (leb b (M .bytes m - used M m)) 8 _ _ _ (λ e. leb-false b (M .bytes m - used M m) e) (λ e l. omega (arith, leb-true b (M .bytes m - used M m) e))
+        (λ w. none-applies))))
 
     stepped-rows : (a b : ℕ) → First (step-rows M m a b) (numberIn (stepping M m a b))
     unfolding stepping
@@ -316,26 +330,12 @@ module _ {K W : Type 0} (M : Store K W) (homes : (m : M .State) (k : K) → M .s
       (λ x. first-need (eqb (M .bytes m) (M .bytes n)) 1 _ _ _ (λ e. eqb-false (M .bytes m) (M .bytes n) e) (λ e f. f (eqb-true (M .bytes m) (M .bytes n) e))
       (λ w. none-applies))))
 
-  abbrev AnyDamage : M .State → Type 0
-  AnyDamage m = DamagedSomewhere M m ⊎ (M .damagedFully m ≡ true)
-
-  ruined-is : (m : M .State) → anyDamage M m ≡ true → AnyDamage m
-  unfolding anyDamage
-  ruined-is m e = by-bool (damagedSlots M m) (λ h. inl (hurt-somewhere M m h)) (λ h. inr (rw h at e))
-
-  is-ruined : (m : M .State) → anyDamage M m ≡ false → AnyDamage m → ⊥
-  unfolding anyDamage
-  is-ruined m e (inl b) = by-bool (damagedSlots M m) (λ h. let c : _≡_ {A = Bool} true false = rw h at e in clash cc) (λ h. somewhere-hurt M m b h)
-  is-ruined m e (inr h) = by-bool (damagedSlots M m)
-      (λ x. let c : _≡_ {A = Bool} true false = rw x at e in clash cc)
-      (λ x. let c : _≡_ {A = Bool} true false = sym h ∙ (rw x at e) in clash cc)
-
   united-rows : (l r : M .State) → First (union-rows M l r) (numberIn (union M l r))
   unfolding union numberIn
   united-rows l r = joined-row (M .sized l) 1 _ _ _ _ (λ e. e) (λ e f. false-sized (M .sized l) e f)
       (λ z. first-sized (M .sized r) _ _
-      (λ y. joined-row (not (anyDamage M l)) 5 _ _ _ _ (λ e. ruined-is l (not-false (anyDamage M l) e)) (λ e f. is-ruined l (not-true (anyDamage M l) e) f)
-      (λ x. first-need (not (anyDamage M r)) 5 _ _ _ (λ e. ruined-is r (not-false (anyDamage M r) e)) (λ e f. is-ruined r (not-true (anyDamage M r) e) f)
+      (λ y. joined-row (not (anyDamage M l)) 5 _ _ _ _ (λ e. ruined-is M l (not-false (anyDamage M l) e)) (λ e f. is-ruined M l (not-true (anyDamage M l) e) f)
+      (λ x. first-need (not (anyDamage M r)) 5 _ _ _ (λ e. ruined-is M r (not-false (anyDamage M r) e)) (λ e f. is-ruined M r (not-true (anyDamage M r) e) f)
       (λ w. first-pass (M .carried r) _ _
       (λ t. first-need (leb (needs M (λ k. 1) l r) (M .size l - live-count M l)) 7 _ _ _ (λ e. leb-false (needs M (λ k. 1) l r) (M .size l - live-count M l) e) (λ e f. omega (arith, leb-true (needs M (λ k. 1) l r) (M .size l - live-count M l) e))
       (λ u. first-need (leb (needs M (M .weight) l r) (M .bytes l - used M l)) 8 _ _ _ (λ e. leb-false (needs M (M .weight) l r) (M .bytes l - used M l) e) (λ e f. omega (arith, leb-true (needs M (M .weight) l r) (M .bytes l - used M l) e))
@@ -358,7 +358,7 @@ module _ {K W : Type 0} (M : Store K W) (homes : (m : M .State) (k : K) → M .s
   own-first w x capacities = numbered number (λ a. refl) _ _ (sizing-rows (w x))
   own-first w x lens = numbered number (λ a. refl) _ _ (counted-rows (w x))
   own-first w x empties = numbered (λ n. truth (eqb n 0)) (λ a. refl) _ _ (counted-rows (w x))
-  own-first w x (reserves n) = numbered (λ u. fine) (λ a. refl) _ _ (reserved-rows (w x) n)
+  own-first w x (reserves n b) = numbered (λ u. fine) (λ a. refl) _ _ (reserved-rows (w x) n b)
   own-first w x (gets k) = numbered seen (λ a. refl) _ _ (seen-rows (w x) k)
   own-first w x (contains-keys k) = numbered seen (λ a. refl) _ _ (seen-rows (w x) k)
   own-first w x (removes k) = numbered seen (λ a. refl) _ _ (taken-rows (w x) k)

@@ -10,14 +10,14 @@ use Rattle.model.specs.Slots.{Slot, never, freed, damaged, live, holds}
 use Rattle.model.specs.Path.{hit, freeAt}
 use Rattle.model.specs.Finite.{Finite, isSome, contains, mass, len}
 use Rattle.model.specs.Store.{Store, path, slotAt, pathLength, live-count, used, damagedSlots}
-use Rattle.model.specs.Calls.{Or, no, ok, need, Seen, found, absent, Spot, occupied, vacant, seenBy, spotBy, capacity, length, reserve, heldOn, heldAt}
+use Rattle.model.specs.Calls.{Or, no, ok, need, Seen, found, absent, Spot, occupied, vacant, seenBy, spotBy, capacity, length, anyDamage, reserve, heldOn, heldAt}
 use Rattle.model.specs.Demand2.{grown, holdsNow}
 use Rattle.model.specs.Lawful.{Lawful, Shows}
 use Rattle.model.proofs.Cases.{by-bool, by-lt, by-same}
 use Rattle.model.proofs.Path.{hit-examined}
 use Rattle.model.proofs.Sound.{sound-look}
 use Rattle.model.proofs.Slots.{count-high}
-use Rattle.model.proofs.Shows.{shows-total, PathOf, here, gone, path-of, free-room, room-free, shows-unhurt, home-below}
+use Rattle.model.proofs.Shows.{shows-total, PathOf, here, gone, path-of, free-room, room-free, shows-unhurt, shows-unharmed, home-below}
 
 module _ {K W : Type 0} (M : Store K W) (m : M .State) where
   -- what a lookup answers, by the map's word on the key
@@ -44,6 +44,10 @@ module _ {K W : Type 0} (M : Store K W) (L : Lawful M) (m : M .State) (f : Finit
   whole-need : {A : Type 0} (a : Or A) → need (not (damagedSlots M m)) 5 a ≡ a
   unfolding need
   whole-need a = rw (shows-unhurt M L m f s)
+
+  calm-need : {A : Type 0} (a : Or A) → need (not (anyDamage M m)) 5 a ≡ a
+  unfolding need anyDamage
+  calm-need a = rw (shows-unhurt M L m f s, shows-unharmed M L m f s)
 
   pub live-len : live-count M m ≡ len f
   unfolding live-count len
@@ -107,6 +111,8 @@ module _ {K W : Type 0} (M : Store K W) (L : Lawful M) (m : M .State) (f : Finit
   unfolding capacity
   capacity-is = open-need (ok (M .size m))
 
-  pub reserve-is : (n : ℕ) → reserve M m n ≡ need (leb n (M .size m - len f)) 7 (ok tt)
+  pub reserve-is : (n b : ℕ) → reserve M m n b ≡ need (leb n (M .size m - len f)) 7 (need (leb b (M .bytes m - mass (M .weight) (f .dom))) 8 (ok tt))
   unfolding reserve
-  reserve-is n = rw (open-need (need (not (damagedSlots M m)) 5 (need (leb n (M .size m - live-count M m)) 7 (ok (tt {0})))), whole-need (need (leb n (M .size m - live-count M m)) 7 (ok (tt {0}))), live-len)
+  reserve-is n b =
+      let fits : Or (Unit {0}) = need (leb n (M .size m - live-count M m)) 7 (need (leb b (M .bytes m - used M m)) 8 (ok (tt {0}))) in
+      open-need (need (not (anyDamage M m)) 5 fits) ∙ calm-need fits ∙ rw (live-len, used-mass)

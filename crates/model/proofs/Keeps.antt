@@ -34,7 +34,7 @@ module _ {K W : Type 0} (M : Store K W) where
   by-renews m capacities other anew = other refl
   by-renews m lens other anew = other refl
   by-renews m empties other anew = other refl
-  by-renews m (reserves n) other anew = other refl
+  by-renews m (reserves n b) other anew = other refl
   by-renews m (gets k) other anew = other refl
   by-renews m (contains-keys k) other anew = other refl
   by-renews m (removes k) other anew = other refl
@@ -136,7 +136,7 @@ module _ {K W : Type 0} (M : Store K W) where
     own-shows capacities = kept-shows (refuses (tells M m capacities))
     own-shows lens = kept-shows (refuses (tells M m lens))
     own-shows empties = kept-shows (refuses (tells M m empties))
-    own-shows (reserves n) = kept-shows (refuses (tells M m (reserves n)))
+    own-shows (reserves n b) = kept-shows (refuses (tells M m (reserves n b)))
     own-shows (gets k) = kept-shows (refuses (tells M m (gets k)))
     own-shows (contains-keys k) = kept-shows (refuses (tells M m (contains-keys k)))
     own-shows (removes k) = remove-shows k

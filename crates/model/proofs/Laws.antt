@@ -8,28 +8,28 @@ use mathlib.Core.Logic.{_⊎_, inl, inr, ⊎-elim, _↔_}
 use mathlib.Core.Option.{Option, none, some}
 use mathlib.Core.Path.{_≡_, refl, sym, _∙_, ap}
 use native.Mathlib.Omega.{arith}
-use borrow.Author.Tests.{lt-ltb, leb-true, leb-false, le-leb, eqb-true, eq-eqb, not-true}
-use lib.Dec.{leb, eqb}
+use borrow.Author.Tests.{lt-ltb, leb-true, leb-false, eqb-true, eq-eqb, not-true}
+use lib.Dec.{ltb, leb, eqb}
 use Rattle.model.specs.Slots.{never, damaged, frees, live, made, pairs, look}
-use Rattle.model.specs.Path.{hit, miss, freeAt}
+use Rattle.model.specs.Path.{Find, hit, miss, damage, at, freeAt}
 use Rattle.model.specs.Finite.{Finite, isSome, contains, member, mass, len, empty, insert, remove, firsts, finiteOf}
-use Rattle.model.specs.Store.{Store, path, slotAt, pathLength, live-count, used}
-use Rattle.model.specs.Calls.{lookupOf, Or, no, ok, need, pass, give, Seen, found, absent, Spot, occupied, vacant, on-occupied, on-vacant, seenBy, spotBy, get, entry, storedBy, after-insert, put-spot, after-put, removedBy, after-remove, acted, capacity, after-make, reserve, copy, after-copy, ruleBy, rule, storeAll, missed, lacking, needs, union, after-union, heldOn, heldAt, occupied-get, after-set, occupied-remove, after-drop, goodFor, vacancy, vacant-insert, after-fill, or-insert, after-or-insert, insert-entry, after-insert-entry}
+use Rattle.model.specs.Store.{Store, path, slotAt, pathLength, live-count, used, damagedSlots}
+use Rattle.model.specs.Calls.{lookupOf, Or, no, ok, need, pass, give, Seen, found, absent, Spot, occupied, vacant, on-occupied, on-vacant, seenBy, spotBy, get, entry, storedBy, after-insert, put-spot, after-put, removedBy, after-remove, acted, capacity, after-make, anyDamage, reserve, copy, after-copy, ruleBy, rule, storeAll, missed, lacking, needs, union, after-union, heldOn, heldAt, occupied-get, after-set, occupied-remove, after-drop, goodFor, vacancy, vacant-insert, after-fill, or-insert, after-or-insert, insert-entry, after-insert-entry}
 use Rattle.model.specs.Calls
 use Rattle.model.specs.Walk.{StepAnswer, pair, nothing, done, halts, step}
 use Rattle.model.specs.Machine.{makes, clears, capacities, lens, empties, reserves, gets, contains-keys, removes, entries, inserts, puts, occupied-gets, occupied-removes, occupied-sets, vacant-inserts, or-inserts, insert-entries, Call, own, copies, unions, steps, Answer, refused, fine, number, truth, seen, spot, value, stepped, report, World, tells, leaves, stepping, answer}
-use Rattle.model.specs.Demand1.{Row, row, First, none-applies, applies-here, goes-on, Absent, DamagedOnPath, DamagedSomewhere, sized-rows, count-rows, look-rows, room-rows, place-rows, grip-rows, open-rows, rows, refusal}
+use Rattle.model.specs.Demand1.{Row, row, First, none-applies, applies-here, goes-on, Absent, DamagedOnPath, DamagedSomewhere, AnyDamage, sized-rows, count-rows, look-rows, room-rows, place-rows, grip-rows, open-rows, rows, refusal, numberIn}
 use Rattle.model.specs.Demand2.{refuses, renews, EntryOf, is-occupied, is-vacant, is-full, is-tight}
 use Rattle.model.specs.Tables.{sweeps, Renewal}
 use Rattle.model.specs.Lawful.{Lawful, SoundTable, Shows}
 use Rattle.model.proofs.Cases.{by-bool, by-lt, by-eq, clash}
-use Rattle.model.proofs.Slots.{put-same}
-use Rattle.model.proofs.Path.{at-below, hit-at, hit-examined, miss-examined, examined-low, examined-high, free-before, free-here, free-high}
+use Rattle.model.proofs.Slots.{put-same, damaged-bad}
+use Rattle.model.proofs.Path.{at-below, hurt-at, hit-at, hit-examined, miss-examined, examined-low, examined-high, free-before, free-here, free-high}
 use Rattle.model.proofs.Sound.{sound-look, no-free-full, full-no-free}
 use Rattle.model.proofs.Pairs.{total-pairs}
 use Rattle.model.proofs.Accepted.{need-ok, pass-ok, seen-found, seen-absent, spot-occupied, spot-vacant, entry-spot, put-taken, grip-live, occupied-grip, removed-grip, good-vacant}
 use Rattle.model.proofs.Shows.{home-below, shows-wipe, PathOf, here, gone, path-of, free-room, shows-unharmed}
-use Rattle.model.proofs.Exact.{live-len, used-mass, len-high, used-high, seenFor, seen-is, length-is, reserve-is}
+use Rattle.model.proofs.Exact.{live-len, used-mass, len-high, used-high, seenFor, seen-is, length-is}
 use Rattle.model.proofs.Keeps.{path-free, insert-shows, remove-shows, set-shows, drop-shows}
 use Rattle.model.proofs.Walk.{Strode, strode-pair, strode-nothing, strode-done, strode}
 use Rattle.model.proofs.Union.{union-shows}
@@ -459,14 +459,6 @@ module _ {K W : Type 0} (M : Store K W) (L : Lawful M) (m : M .State) (f : Finit
   unfolding len
   len-within = len-high M L m f s
 
-  -- reserve answers room exactly when at least the asked number of slots are not live
-  pub reserve-exactly : (n : ℕ) → (reserve M m n ≡ ok tt) ↔ (len f + n ≤ M .size m)
-  unfolding need
-  reserve-exactly n = (
-    (λ e. omega (arith, leb-true n (M .size m - len f) (need-ok (leb n (M .size m - len f)) 7 (ok (tt {0})) tt (sym (reserve-is M L m f s n) ∙ e) .0), len-within)),
-    (λ l. reserve-is M L m f s n ∙ rw (le-leb n (M .size m - len f) (omega arith))),
-  )
-
   -- insert and entry answer by the map and the room, for a key that is not itself refused
   pub entry-of : (k : K) → M .kept k ≡ 0 → EntryOf M m f k
   unfolding spotBy need path pathLength
@@ -493,6 +485,42 @@ module _ {K W : Type 0} (M : Store K W) (L : Lawful M) (m : M .State) (f : Finit
       go (is-vacant i e l u r) = ((λ c. clash cc), (λ (c, d). absurd (⊎-elim (λ x. omega arith) (λ x. omega arith) d)))
       go (is-full e l r) = ((λ c. (e, inl (cc, l))), (λ (c, d). ⊎-elim (λ x. r ∙ ap (λ i. no i) (sym (x .0))) (λ x. absurd (omega arith)) d))
       go (is-tight e l u r) = ((λ c. (e, inr (cc, l, u))), (λ (c, d). ⊎-elim (λ x. absurd (omega arith)) (λ x. r ∙ ap (λ i. no i) (sym (x .0))) d))
+
+-- Reserve and insert on any memory of a table whose storing calls find the damage of every slot.
+module _ {K W : Type 0} (M : Store K W) (homes : (m : M .State) (k : K) → M .sized m ≡ true → M .home m k < M .size m) (m : M .State) (full : anyDamage M m ≡ M .damagedFully m) where
+  whole-path : (k : K) → M .sized m ≡ true → M .damagedFully m ≡ false → path M m k ≡ damage → ⊥
+  unfolding path anyDamage damagedSlots
+  whole-path k z h q =
+      let (n, l, p) = hurt-at (M .keys) (M .size m) (M .home m k) (M .slots m) k q in
+      let c = damaged-bad (M .slots m) (M .size m) (at (M .size m) (M .home m k) n) (at-below (M .size m) (M .home m k) n (homes m k z) l) p in
+      let d : _≡_ {A = Bool} true false = (rw c at full) ∙ h in
+      clash cc
+
+  room-not-5 : (i j : Bool) → numberIn (need i 7 (need j 8 (ok (tt {0})))) ≡ 5 → ⊥
+  unfolding need numberIn
+  room-not-5 true true e = omega arith
+  room-not-5 true false e = omega arith
+  room-not-5 false j e = omega arith
+
+  spot-not-5 : (k : K) → M .sized m ≡ true → M .damagedFully m ≡ false → numberIn (spotBy M m k (path M m k)) ≡ 5 → ⊥
+  unfolding spotBy need numberIn
+  spot-not-5 k z h e = go (path M m k) refl e
+    where
+      go : (r : Find W) → path M m k ≡ r → numberIn (spotBy M m k r) ≡ 5 → ⊥
+      go (hit n v) p e = omega arith
+      go (miss x f) p e = by-bool (ltb f (M .size m))
+          (λ a. by-bool (leb (M .weight k) (M .bytes m - used M m)) (λ b. omega (arith, rw (a, b) at e)) (λ b. omega (arith, rw (a, b) at e)))
+          (λ a. omega (arith, rw a at e))
+      go damage p e = whole-path k z h p
+
+  -- reserve is refused 5 exactly where the insert of a key that may be stored is, whatever is asked for
+  pub reserve-5-as-insert : (n b : ℕ) (k : K) → M .kept k ≡ 0 → (numberIn (reserve M m n b) ≡ 5) ↔ (numberIn (entry M m k) ≡ 5)
+  unfolding reserve entry need pass numberIn
+  reserve-5-as-insert n b k y = by-bool (M .sized m)
+      (λ z. by-bool (M .damagedFully m)
+      (λ h. rw (z, y, full, h) ((λ e. e), (λ e. e)))
+      (λ h. rw (z, y, full, h) ((λ e. absurd (room-not-5 (leb n (M .size m - live-count M m)) (leb b (M .bytes m - used M m)) e)), (λ e. absurd (spot-not-5 k z h e)))))
+      (λ z. rw z ((λ e. e), (λ e. e)))
 
 -- Get after insert and after remove, on a sound memory that shows the map f.
 module _ {K W : Type 0} (M : Store K W) (L : Lawful M) (m : M .State) (f : Finite K W) (s : Shows M m f) (k : K) where
@@ -548,6 +576,9 @@ module _ {K W : Type 0} (M : Store K W) (L : Lawful M) (asked-else : (k : K) →
     no-harm : M .damagedFully m ≡ true → ⊥
     no-harm e = let q = L .unharmed m (h .sized) (h .good) (h .sound) in clash cc
 
+    no-ruin : AnyDamage M m → ⊥
+    no-ruin p = ⊎-elim no-bad-somewhere no-harm p
+
     no-harm-on-path : (k : K) → (M .damagedFully m ≡ true) ⊎ DamagedOnPath M m k → ⊥
     no-harm-on-path k (inl e) = no-harm e
     no-harm-on-path k (inr b) = no-bad-on-path k b
@@ -582,7 +613,7 @@ module _ {K W : Type 0} (M : Store K W) (L : Lawful M) (asked-else : (k : K) →
   calm w h x (own capacities) = sized-calm (w x) (h x)
   calm w h x (own lens) = count-calm (w x) (h x)
   calm w h x (own empties) = count-calm (w x) (h x)
-  calm w h x (own (reserves n)) = other (λ e. omega arith) (whole (no-bad-somewhere (w x) (h x)) (other (λ e. omega arith) calm-end))
+  calm w h x (own (reserves n b)) = other (λ e. omega arith) (whole (no-ruin (w x) (h x)) (other (λ e. omega arith) (other (λ e. omega arith) calm-end)))
   calm w h x (own (gets k)) = look-calm (w x) (h x) k
   calm w h x (own (contains-keys k)) = look-calm (w x) (h x) k
   calm w h x (own (removes k)) = other (λ e. omega arith) (other (asked-else k) (whole (no-harm-on-path (w x) (h x) k) calm-end))
@@ -598,7 +629,7 @@ module _ {K W : Type 0} (M : Store K W) (L : Lawful M) (asked-else : (k : K) →
   calm w h x (own (insert-entries (on-occupied i) k v)) = grip-calm (w x) (h x) i k
   calm w h x (own (insert-entries (on-vacant i) k v)) = open-calm (w x) (h x) i k
   calm w h x (copies y) = other (λ e. omega arith) calm-end
-  calm w h x (unions y) = other (λ e. omega arith) (whole (λ p. ⊎-elim (⊎-elim (no-bad-somewhere (w x) (h x)) (no-harm (w x) (h x))) (⊎-elim (no-bad-somewhere (w y) (h y)) (no-harm (w y) (h y))) p) (other (carried-else (w y)) (other (λ e. omega arith) (other (λ e. omega arith) calm-end))))
+  calm w h x (unions y) = other (λ e. omega arith) (whole (λ p. ⊎-elim (no-ruin (w x) (h x)) (no-ruin (w y) (h y)) p) (other (carried-else (w y)) (other (λ e. omega arith) (other (λ e. omega arith) calm-end))))
   calm w h x (steps a b) = other (λ e. omega arith) (other (λ e. omega arith) (other (λ e. omega arith) (whole (λ (j, u, l, v, q, r). h x .sound .whole j l q) calm-end)))
 
   -- a sound table never answers 5, whatever the call (where a key itself is not refused with 5)
@@ -613,7 +644,7 @@ module _ {K W : Type 0} (M : Store K W) where
   swept (own capacities) e = clash cc
   swept (own lens) e = clash cc
   swept (own empties) e = clash cc
-  swept (own (reserves n)) e = clash cc
+  swept (own (reserves n b)) e = clash cc
   swept (own (gets k)) e = clash cc
   swept (own (contains-keys k)) e = clash cc
   swept (own (removes k)) e = clash cc

@@ -52,7 +52,7 @@ module _ {K W : Type 0} (M : Store K W) (asked-bar : (k : K) → KeyBar (M .aske
   own-rising w x capacities = up (omega arith) rises-end
   own-rising w x lens = up (omega arith) (up (omega arith) rises-end)
   own-rising w x empties = up (omega arith) (up (omega arith) rises-end)
-  own-rising w x (reserves n) = up (omega arith) (up (omega arith) (up (omega arith) rises-end))
+  own-rising w x (reserves n b) = up (omega arith) (up (omega arith) (up (omega arith) (up (omega arith) rises-end)))
   own-rising w x (gets k) = keyed (asked-bar k) (λ a l. up l rises-end)
   own-rising w x (contains-keys k) = keyed (asked-bar k) (λ a l. up l rises-end)
   own-rising w x (removes k) = keyed (asked-bar k) (λ a l. up l rises-end)
@@ -108,7 +108,7 @@ module _ {K W : Type 0} (M : Store K W) where
   own-still m capacities e = refl
   own-still m lens e = refl
   own-still m empties e = refl
-  own-still m (reserves n) e = refl
+  own-still m (reserves n b) e = refl
   own-still m (gets k) e = refl
   own-still m (contains-keys k) e = refl
   own-still m (removes k) e = still-removed m (remove M m k) e

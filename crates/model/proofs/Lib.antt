@@ -20,6 +20,7 @@ pub mod Plain
 pub mod Demand1
 pub mod Least
 pub mod Laws
+pub mod Fresh
 pub mod Running
 pub mod Runs
 pub mod Places

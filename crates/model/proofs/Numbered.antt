@@ -107,9 +107,9 @@ module _ {K W : Type 0} (M : Store K W) where
     unfolding put-spot
     put-numbered k = by-need (M .sized m) 0 _ (by-need (not (M .damagedFully m)) 4 _ (spot-numbered m k (path M m k)))
 
-    reserve-numbered : (n : ℕ) → Numbered (reserve M m n)
+    reserve-numbered : (n b : ℕ) → Numbered (reserve M m n b)
     unfolding reserve
-    reserve-numbered n = by-need (M .sized m) 0 _ (by-need _ 4 _ (by-need _ 6 _ (numbered-ok _)))
+    reserve-numbered n b = by-need (M .sized m) 0 _ (by-need _ 4 _ (by-need _ 6 _ (by-need _ 7 _ (numbered-ok _))))
 
     pub step-numbered : (a b : ℕ) → Numbered (stepping M m a b)
     unfolding stepping step pace stepWithin
@@ -133,7 +133,7 @@ module _ {K W : Type 0} (M : Store K W) where
   told-refused w x (own capacities) = reports number (λ a. (refl, refl)) _ (capacity-numbered (w x))
   told-refused w x (own lens) = reports number (λ a. (refl, refl)) _ (length-numbered (w x))
   told-refused w x (own empties) = reports (λ n. truth (eqb n 0)) (λ a. (refl, refl)) _ (length-numbered (w x))
-  told-refused w x (own (reserves n)) = reports (λ u. fine) (λ a. (refl, refl)) _ (reserve-numbered (w x) n)
+  told-refused w x (own (reserves n b)) = reports (λ u. fine) (λ a. (refl, refl)) _ (reserve-numbered (w x) n b)
   told-refused w x (own (gets k)) = reports seen (λ a. (refl, refl)) _ (get-numbered (w x) k)
   told-refused w x (own (contains-keys k)) = reports seen (λ a. (refl, refl)) _ (get-numbered (w x) k)
   told-refused w x (own (removes k)) = reports seen (λ a. (refl, refl)) _ (remove-numbered (w x) k)

@@ -98,7 +98,7 @@ module _ {K W : Type 0} (M : Store K W) (P : Places M) (A : Apart M P) (T : Stea
   own-kept m capacities d = refl
   own-kept m lens d = refl
   own-kept m empties d = refl
-  own-kept m (reserves n) d = refl
+  own-kept m (reserves n b) d = refl
   own-kept m (gets k) d = refl
   own-kept m (contains-keys k) d = refl
   own-kept m (removes k) d = remove-kept m k (remove M m k) refl d
@@ -154,9 +154,9 @@ run-named M P A T (c ∷ cs) w y p d =
 
 module _ {K W : Type 0} (M : Store K W) (P : Places M) (p : P .Place) (m : M .State) where
   -- A call that only reads names no place.
-  pub reading-names-none : (n s : ℕ) (k : K) → (own-names M P p m capacities ≡ false) × (own-names M P p m lens ≡ false) × (own-names M P p m empties ≡ false) × (own-names M P p m (reserves n) ≡ false) × (own-names M P p m (gets k) ≡ false) × (own-names M P p m (contains-keys k) ≡ false) × (own-names M P p m (entries k) ≡ false) × (own-names M P p m (occupied-gets s k) ≡ false)
+  pub reading-names-none : (n b s : ℕ) (k : K) → (own-names M P p m capacities ≡ false) × (own-names M P p m lens ≡ false) × (own-names M P p m empties ≡ false) × (own-names M P p m (reserves n b) ≡ false) × (own-names M P p m (gets k) ≡ false) × (own-names M P p m (contains-keys k) ≡ false) × (own-names M P p m (entries k) ≡ false) × (own-names M P p m (occupied-gets s k) ≡ false)
   unfolding own-names
-  reading-names-none n s k = (refl, refl, refl, refl, refl, refl, refl, refl)
+  reading-names-none n b s k = (refl, refl, refl, refl, refl, refl, refl, refl)
 
   -- Nor does a refused call, or a remove of an absent key.
   pub refused-names-none : (n e : ℕ) (k : K) → (insert-names M P p m k (no n) ≡ false) × (remove-names M P p m (no n) ≡ false) × (remove-names M P p m (ok (absent e)) ≡ false) × (accepted {A = ℕ} (no n) true ≡ false)

@@ -184,7 +184,7 @@ module _ {K W : Type 0} (M : Store K W) (L : Lawful M) where
     own-changed capacities e = same refl
     own-changed lens e = same refl
     own-changed empties e = same refl
-    own-changed (reserves n) e = same refl
+    own-changed (reserves n b) e = same refl
     own-changed (gets k) e = same refl
     own-changed (contains-keys k) e = same refl
     own-changed (removes k) e = remove-changed k
@@ -268,7 +268,7 @@ module _ {K W : Type 0} (M : Store K W) (L : Lawful M) where
   own-size m capacities = refl
   own-size m lens = refl
   own-size m empties = refl
-  own-size m (reserves n) = refl
+  own-size m (reserves n b) = refl
   own-size m (gets k) = refl
   own-size m (contains-keys k) = refl
   own-size m (removes k) = removed-size m (remove M m k)

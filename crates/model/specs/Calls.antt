@@ -119,9 +119,15 @@ module _ {K W : Type 0} (M : Store K W) where
   unfoldable pub length : M .State → Or ℕ
   length m = need (M .sized m) 1 (need (not (damagedSlots M m)) 5 (ok (live-count M m)))
 
-  -- reserve: room exactly when at least the asked number of slots are not live.
-  unfoldable pub reserve : M .State → ℕ → Or (Unit {0})
-  reserve m n = need (M .sized m) 1 (need (not (damagedSlots M m)) 5 (need (leb n (M .size m - live-count M m)) 7 (ok tt)))
+  -- Damage found by examining every slot of a table.
+  unfoldable pub anyDamage : M .State → Bool
+  anyDamage m = cond (damagedSlots M m) true (M .damagedFully m)
+
+  -- reserve n b: room exactly when at least n slots are not live, and at least b arena bytes are not used.
+  unfoldable pub reserve : M .State → ℕ → ℕ → Or (Unit {0})
+  reserve m n b =
+      need (M .sized m) 1 (need (not (anyDamage m)) 5
+      (need (leb n (M .size m - live-count M m)) 7 (need (leb b (M .bytes m - used M m)) 8 (ok tt))))
 
   -- copy from n onto m wants right and equal sizes, and examines nothing.
   unfoldable pub copy : M .State → M .State → Or (Unit {0})
@@ -159,10 +165,6 @@ module _ {K W : Type 0} (M : Store K W) where
   -- What union needs: the weights of the right's live slots whose key is absent by its path in the left.
   unfoldable pub needs : (K → ℕ) → M .State → M .State → ℕ
   needs g l r = total (λ k. cond (lacking l k) (g k) 0) (M .slots r) (M .size r)
-
-  -- Damage found by examining every slot of a table.
-  unfoldable pub anyDamage : M .State → Bool
-  anyDamage m = cond (damagedSlots M m) true (M .damagedFully m)
 
   -- union examines every slot of both before storing, may refuse a key that the right carries, and needs slots and bytes for the keys that the left lacks.
   unfoldable pub union : M .State → M .State → Or (Unit {0})

@@ -68,6 +68,10 @@ module _ {K W : Type 0} (M : Store K W) where
     abbrev pub DamagedSomewhere : Type 0
     DamagedSomewhere = (i : ℕ) × (i < M .size m) × (M .slots m i ≡ damaged)
 
+    -- Examining every slot shows damage: some slot is damaged, or there is what storing calls find so.
+    abbrev pub AnyDamage : Type 0
+    AnyDamage = DamagedSomewhere ⊎ (M .damagedFully m ≡ true)
+
     -- 1: the lent slices disagree in length, or a size is beyond its limit.
     abbrev sizes : Row
     sizes = row 1 (M .sized m ≡ false)
@@ -88,9 +92,9 @@ module _ {K W : Type 0} (M : Store K W) where
     abbrev pub count-rows : List Row
     count-rows = sizes ∷ row 5 DamagedSomewhere ∷ []
 
-    -- reserve: too few slots that are not live.
-    abbrev pub reserve-rows : ℕ → List Row
-    reserve-rows n = sizes ∷ row 5 DamagedSomewhere ∷ row 7 (M .size m - live-count M m < n) ∷ []
+    -- reserve: too few slots that are not live, or too few arena bytes that are not used.
+    abbrev pub reserve-rows : ℕ → ℕ → List Row
+    reserve-rows n b = sizes ∷ row 5 AnyDamage ∷ row 7 (M .size m - live-count M m < n) ∷ row 8 (M .bytes m - used M m < b) ∷ []
 
     -- get and contains examine the path.
     abbrev pub look-rows : K → List Row
@@ -147,7 +151,7 @@ module _ {K W : Type 0} (M : Store K W) where
   abbrev pub union-rows : M .State → M .State → List Row
   union-rows l r =
       row 1 ((M .sized l ≡ false) ⊎ (M .sized r ≡ false))
-      ∷ row 5 ((DamagedSomewhere l ⊎ (M .damagedFully l ≡ true)) ⊎ (DamagedSomewhere r ⊎ (M .damagedFully r ≡ true)))
+      ∷ row 5 (AnyDamage l ⊎ AnyDamage r)
       ∷ row (M .carried r) (M .carried r ≡ 0 → ⊥)
       ∷ row 7 (M .size l - live-count M l < needs M (λ k. 1) l r)
       ∷ row 8 (M .bytes l - used M l < needs M (M .weight) l r) ∷ []
@@ -164,7 +168,7 @@ module _ {K W : Type 0} (M : Store K W) where
   own-rows m capacities = sized-rows m
   own-rows m lens = count-rows m
   own-rows m empties = count-rows m
-  own-rows m (reserves n) = reserve-rows m n
+  own-rows m (reserves n b) = reserve-rows m n b
   own-rows m (gets k) = look-rows m k
   own-rows m (contains-keys k) = look-rows m k
   own-rows m (removes k) = remove-rows m k

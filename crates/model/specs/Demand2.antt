@@ -34,7 +34,7 @@ module _ {K W : Type 0} (M : Store K W) where
   grows capacities f = f
   grows lens f = f
   grows empties f = f
-  grows (reserves n) f = f
+  grows (reserves n b) f = f
   grows (gets k) f = f
   grows (contains-keys k) f = f
   grows (removes k) f = remove (M .keys) f k
@@ -56,7 +56,7 @@ module _ {K W : Type 0} (M : Store K W) where
   renews capacities = false
   renews lens = false
   renews empties = false
-  renews (reserves n) = false
+  renews (reserves n b) = false
   renews (gets k) = false
   renews (contains-keys k) = false
   renews (removes k) = false
@@ -103,7 +103,7 @@ module _ {K W : Type 0} (M : Store K W) where
   keyOf capacities = none
   keyOf lens = none
   keyOf empties = none
-  keyOf (reserves n) = none
+  keyOf (reserves n b) = none
   keyOf (gets k) = some k
   keyOf (contains-keys k) = some k
   keyOf (removes k) = some k

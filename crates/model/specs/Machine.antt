@@ -9,7 +9,7 @@ use Rattle.model.specs.Walk.{StepAnswer, step}
 -- The calls on one table, but walk steps: one constructor for each published call of the base, and the put, of which later calls are made.
 pub data Own (K W : Type 0) : Type 0 where
   makes clears capacities lens empties : Own K W
-  reserves : ℕ → Own K W
+  reserves : ℕ → ℕ → Own K W
   gets contains-keys removes entries : K → Own K W
   inserts puts : K → W → Own K W
   occupied-gets occupied-removes : ℕ → K → Own K W
@@ -54,7 +54,7 @@ module _ {K W : Type 0} (M : Store K W) where
   tells m capacities = report number (capacity M m)
   tells m lens = report number (length M m)
   tells m empties = report (λ n. truth (eqb n 0)) (length M m)
-  tells m (reserves n) = report (λ u. fine) (reserve M m n)
+  tells m (reserves n b) = report (λ u. fine) (reserve M m n b)
   tells m (gets k) = report seen (get M m k)
   tells m (contains-keys k) = report seen (get M m k)
   tells m (removes k) = report seen (remove M m k)
@@ -75,7 +75,7 @@ module _ {K W : Type 0} (M : Store K W) where
   leaves m capacities = m
   leaves m lens = m
   leaves m empties = m
-  leaves m (reserves n) = m
+  leaves m (reserves n b) = m
   leaves m (gets k) = m
   leaves m (contains-keys k) = m
   leaves m (removes k) = after-remove M m k

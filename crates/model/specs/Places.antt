@@ -58,7 +58,7 @@ module _ {K W : Type 0} (M : Store K W) (P : Places M) (p : P .Place) where
   own-names m capacities = false
   own-names m lens = false
   own-names m empties = false
-  own-names m (reserves n) = false
+  own-names m (reserves n b) = false
   own-names m (gets k) = false
   own-names m (contains-keys k) = false
   own-names m (removes k) = remove-names m (remove M m k)

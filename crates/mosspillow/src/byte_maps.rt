@@ -87,7 +87,7 @@ pub extern "C" fn moss_byte_map_is_empty(
     emptiness_numbers(byte_map_reads::is_empty(marks, offsets, lengths, values, arena))
 }
 
-// Whether so many slots are not live.
+// Whether so many slots are not live, and so many arena bytes not used.
 #[no_mangle]
 pub extern "C" fn moss_byte_map_reserve(
     marks: &[u8],
@@ -95,11 +95,12 @@ pub extern "C" fn moss_byte_map_reserve(
     lengths: &[u8],
     values: &[u64],
     arena: &[u8],
-    asked: u64,
+    keys: u64,
+    bytes: u64,
 ) -> Numbers
-    ensures { λ r. ⌜ r ≡ reserveOf maps (before marks offsets lengths values arena) asked ⌝ }
+    ensures { λ r. ⌜ r ≡ reserveOf maps (before marks offsets lengths values arena) keys bytes ⌝ }
 {
-    reserved_numbers(byte_map_reads::reserve(marks, offsets, lengths, values, arena, asked))
+    reserved_numbers(byte_map_reads::reserve(marks, offsets, lengths, values, arena, keys, bytes))
 }
 
 // The value of a key.

@@ -82,18 +82,19 @@ pub extern "C" fn moss_byte_set_is_empty(
     emptiness_numbers(byte_set_reads::is_empty(marks, offsets, lengths, arena))
 }
 
-// Whether so many slots are not live.
+// Whether so many slots are not live, and so many arena bytes not used.
 #[no_mangle]
 pub extern "C" fn moss_byte_set_reserve(
     marks: &[u8],
     offsets: &[u16],
     lengths: &[u8],
     arena: &[u8],
-    asked: u64,
+    keys: u64,
+    bytes: u64,
 ) -> Numbers
-    ensures { λ r. ⌜ r ≡ reserveOf sets (before marks offsets lengths arena) asked ⌝ }
+    ensures { λ r. ⌜ r ≡ reserveOf sets (before marks offsets lengths arena) keys bytes ⌝ }
 {
-    reserved_numbers(byte_set_reads::reserve(marks, offsets, lengths, arena, asked))
+    reserved_numbers(byte_set_reads::reserve(marks, offsets, lengths, arena, keys, bytes))
 }
 
 // The stored key's offset and length, where the key is there.

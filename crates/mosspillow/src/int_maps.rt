@@ -74,7 +74,7 @@ pub extern "C" fn moss_int_map_reserve(
     values: &[u64],
     asked: u64,
 ) -> Numbers
-    ensures { λ r. ⌜ r ≡ reserveOf maps (before marks keys values) asked ⌝ }
+    ensures { λ r. ⌜ r ≡ reserveOf maps (before marks keys values) asked 0 ⌝ }
 {
     reserved_numbers(int_map_reads::reserve(marks, keys, values, asked))
 }

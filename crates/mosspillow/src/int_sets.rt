@@ -61,7 +61,7 @@ pub extern "C" fn moss_int_set_is_empty(marks: &[u8], keys: &[u64]) -> Numbers
 // Whether so many slots are not live.
 #[no_mangle]
 pub extern "C" fn moss_int_set_reserve(marks: &[u8], keys: &[u64], asked: u64) -> Numbers
-    ensures { λ r. ⌜ r ≡ reserveOf sets (before marks keys) asked ⌝ }
+    ensures { λ r. ⌜ r ≡ reserveOf sets (before marks keys) asked 0 ⌝ }
 {
     reserved_numbers(int_set_reads::reserve(marks, keys, asked))
 }

@@ -4,6 +4,7 @@
 use Prim.Native.Nat.{ℕ, suc, _-_}
 use mathlib.Core.Bool.{true, false}
 use mathlib.Core.List.{List, [], _∷_}
+use mathlib.Core.Logic.{_↔_}
 use mathlib.Core.Option.{some}
 use mathlib.Core.Path.{_≡_, refl, sym, _∙_, ap}
 use native.Mathlib.Omega.{arith}
@@ -13,15 +14,16 @@ use Rattle.model.specs.Calls.{Or, no, ok, give, Spot, occupied, vacant, Handle,
 use Rattle.model.specs.Calls
 use Rattle.model.specs.Machine.{fine, number, truth, seen, spot, value, stepped, tells, leaves, answer, left, stepping, World}
 use Rattle.model.specs.Lawful.{Lawful}
-use Rattle.model.specs.Demand1.{First, Least, refusal, numberIn}
+use Rattle.model.specs.Demand1.{First, Least, AnyDamage, refusal, numberIn}
 use Rattle.model.specs.Demand2.{keyOf, Book}
 use Rattle.model.specs.Demand3.{has, walkAfter, times, handed, Walked}
 use Rattle.model.specs.Iterated.{onlySteps, Iterated}
 use Rattle.model.specs.Finite.{Finite, isSome}
-use Rattle.model.specs.Store.{pathLength}
+use Rattle.model.specs.Store.{pathLength, live-count, used}
 use Rattle.model.specs.Places.{run-names}
 use Rattle.model.proofs.Cases.{clash}
 use Rattle.model.proofs.Iterated.{walk-once}
+use Rattle.model.proofs.Laws
 use Rattle.model.proofs.Least.{rising}
 use Rattle.model.proofs.Runs.{placed-here}
 use Rattle.model.proofs.Numbered.{step-numbered}
@@ -36,20 +38,23 @@ use Rattle.kinds.proofs.Owed.{get-owed, remove-owed, entry-owed, held-owed, tak
 use Rattle.kinds.specs.Calls.{slotOf, makeOf, capacityOf, lenOf, isEmptyOf, reserveOf, containsOf, copyOf, getOf, removeOf, unionOf, entryOf, heldOf, setOf, takenOf, vacantInsertOf, orInsertOf, insertEntryOf}
 use Rattle.kinds.specs.Columns.{values}
 use Rattle.kinds.specs.Published.{Linked, ZerosElsewhere, PathCounted, askedBy, givenTo, Right, ToldInStep, unknown, noted, afterCalls, Step, walkOf}
+use Rattle.kinds.specs.Reserving.{RoomTold, Reserves}
 use Rattle.kinds.specs.Told.{told}
 use Rattle.kinds.proofs.Columns.{values-lawful}
 use Rattle.kinds.proofs.Simple.{simply-linked, alone-accepted}
 use Rattle.kinds.proofs.Published.{reported, lowest-told, refused-same, named-only, lent-zeros, inserted-known, removed-known, told-in-step, told-owed, told-rest, walk-told, iterated-told, heard-step}
+use Rattle.kinds.proofs.Reserving.{reserve-told, fresh-said, absent-said, KeysTold, reserves-told}
 use Rattle.kinds.specs.Moved.{movedOn}
 use Rattle.byte_slots.specs.Memory.{ByteMemory, part, usedOf, askedOf, offsetAt, lengthAt}
 use Rattle.byte_slots.specs.Kinds.{maps, insertOf, stepOf}
 use Rattle.byte_slots.specs.Places.{Place, wordIn, places}
+use Rattle.byte_slots.proofs.Bridge.{any-damage-is}
 use Rattle.byte_slots.proofs.Keys.{asked-bar, kept-bar}
 use Rattle.byte_slots.proofs.Lawful.{byte-lawful}
 use Rattle.byte_slots.proofs.Places.{byte-steady, byte-apart}
 use Rattle.byte_map_entry.specs.Calls.{handleOf}
 use Rattle.promises.proofs.Spans.{handed-slot, fresh-bytes, used-told}
-use Rattle.promises.specs.ByteMap.{Call, make, clear, capacity, len, is-empty, reserve, get, contains-key, remove, entry, copy, union-prefer-right, insert, occupied-get, occupied-remove, occupied-remove-entry, step, occupied-set, vacant-insert, or-insert, insert-entry, told-by, one, simple, published, pairTold, Owes, heard, lent-by, owed, Stands}
+use Rattle.promises.specs.ByteMap.{Call, make, clear, capacity, len, is-empty, reserve, get, contains-key, remove, entry, copy, union-prefer-right, insert, occupied-get, occupied-remove, occupied-remove-entry, step, occupied-set, vacant-insert, or-insert, insert-entry, told-by, one, simple, published, keyCalls, pairTold, Owes, heard, lent-by, owed, Stands}
 use Rattle.promises.specs.MapAlphabet.{mapOne}
 
 -- Byte maps are a lawful store.
@@ -64,7 +69,7 @@ number-told w x clear = doneSaid-refusal _ ∙ sym (reported (λ n. fine) (λ a.
 number-told w x capacity = countSaid-refusal _ ∙ sym (reported number (λ a. refl) _)
 number-told w x len = countSaid-refusal _ ∙ sym (reported number (λ a. refl) _)
 number-told w x is-empty = emptySaid-refusal _ ∙ sym (reported (λ n. truth (eqb n 0)) (λ a. refl) _)
-number-told w x (reserve n) = roomSaid-refusal _ ∙ sym (reported (λ u. fine) (λ a. refl) _)
+number-told w x (reserve (n, b)) = roomSaid-refusal _ ∙ sym (reported (λ u. fine) (λ a. refl) _)
 number-told w x (get k) = gotSaid-refusal _ ∙ sym (reported seen (λ a. refl) _)
 number-told w x (contains-key k) = containedSaid-refusal _ ∙ sym (reported seen (λ a. refl) _)
 number-told w x (remove k) = removedSaid-refusal _ ∙ sym (reported seen (λ a. refl) _)
@@ -89,7 +94,7 @@ memory-told w x clear = refl
 memory-told w x capacity = refl
 memory-told w x len = refl
 memory-told w x is-empty = refl
-memory-told w x (reserve n) = refl
+memory-told w x (reserve (n, b)) = refl
 memory-told w x (get k) = refl
 memory-told w x (contains-key k) = refl
 memory-told w x (remove k) = refl
@@ -128,7 +133,7 @@ owes-told s h x clear f e = capacity-owed maps maps-lawful (s .world x) f (h x f
 owes-told s h x capacity f e = capacity-owed maps maps-lawful (s .world x) f (h x f e) countSaid _ refl
 owes-told s h x len f e = length-owed maps maps-lawful (s .world x) f (h x f e) countSaid _ refl
 owes-told s h x is-empty f e = length-owed maps maps-lawful (s .world x) f (h x f e) emptySaid _ refl
-owes-told s h x (reserve a) f e = reserve-owed maps maps-lawful (s .world x) f (h x f e) roomSaid (only ROOM) (λ n. refl) refl a
+owes-told s h x (reserve (a, b)) f e = reserve-owed maps maps-lawful (s .world x) f (h x f e) roomSaid (only ROOM) (λ n. refl) refl a b
 owes-told s h x (get k) f e = get-owed maps maps-lawful (s .world x) f (h x f e) gotSaid _ _ (λ n. refl) (λ v i e. refl) (λ e. refl) k
 owes-told s h x (contains-key k) f e = get-owed maps maps-lawful (s .world x) f (h x f e) containedSaid _ _ (λ n. refl) (λ v i e. refl) (λ e. refl) k
 owes-told s h x (remove k) f e = remove-owed maps maps-lawful (s .world x) f (h x f e) removedSaid _ _ (λ n. refl) (λ v i e. refl) (λ e. refl) k
@@ -163,7 +168,7 @@ owes-once s x f clear n o p q = p ∙ sym q
 owes-once s x f capacity n o p q = p ∙ sym q
 owes-once s x f len n o p q = p ∙ sym q
 owes-once s x f is-empty n o p q = p ∙ sym q
-owes-once s x f (reserve a) n o p q = p ∙ sym q
+owes-once s x f (reserve (a, b)) n o p q = p ∙ sym q
 owes-once s x f (get k) n o p q = p ∙ sym q
 owes-once s x f (contains-key k) n o p q = p ∙ sym q
 owes-once s x f (remove k) n o p q = p ∙ sym q
@@ -204,7 +209,7 @@ refused-zeros w x clear h = zeros doneSaid 0 (λ n. refl) (λ y. refl) (Calls.ca
 refused-zeros w x capacity h = zeros countSaid 0 (λ n. refl) (λ y. refl) (Calls.capacity maps (w x)) h
 refused-zeros w x len h = zeros countSaid 0 (λ n. refl) (λ y. refl) (Calls.length maps (w x)) h
 refused-zeros w x is-empty h = zeros emptySaid 0 (λ n. refl) (λ y. emptySaid-refusal (ok y)) (Calls.length maps (w x)) h
-refused-zeros w x (reserve n) h = zeros roomSaid 0 (λ n. refl) (λ y. refl) (Calls.reserve maps (w x) n) h
+refused-zeros w x (reserve (n, b)) h = zeros roomSaid 0 (λ n. refl) (λ y. refl) (Calls.reserve maps (w x) n b) h
 refused-zeros w x (get k) h = zeros gotSaid 0 (λ n. refl) (λ y. gotSaid-refusal (ok y)) (Calls.get maps (w x) k) h
 refused-zeros w x (contains-key k) h = zeros containedSaid 0 (λ n. refl) (λ y. containedSaid-refusal (ok y)) (Calls.get maps (w x) k) h
 refused-zeros w x (remove k) h = zeros removedSaid 0 (λ n. refl) (λ y. removedSaid-refusal (ok y)) (Calls.remove maps (w x) k) h
@@ -237,7 +242,7 @@ demand-2-examined w x clear k q e = clash cc
 demand-2-examined w x capacity k q e = clash cc
 demand-2-examined w x len k q e = clash cc
 demand-2-examined w x is-empty k q e = clash cc
-demand-2-examined w x (reserve n) k q e = clash cc
+demand-2-examined w x (reserve (n, b)) k q e = clash cc
 demand-2-examined w x (get a) k q e = get-counted maps (w x) a gotSaid (λ n. refl) (λ v i e. refl) (λ e. refl) e ∙ ap (pathLength maps (w x)) (cc)
 demand-2-examined w x (contains-key a) k q e = get-counted maps (w x) a containedSaid (λ n. refl) (λ v i e. refl) (λ e. refl) e ∙ ap (pathLength maps (w x)) (cc)
 demand-2-examined w x (remove a) k q e = remove-counted maps (w x) a removedSaid (λ n. refl) (λ v i e. refl) (λ e. refl) e ∙ ap (pathLength maps (w x)) (cc)
@@ -312,3 +317,28 @@ told-after-remove s h x f e k b r =
     let run = told-in-step maps published maps-linked maps-lawful owed (λ s h x c f e. (owes-told s h x c f e, stands-after (s .world) x c)) ((x, remove k) ∷ (x, get k) ∷ []) s h in
     let o = told-owed maps published maps-linked owed x (get k) [] g (told-rest maps published maps-linked owed x (remove k) ((x, get k) ∷ []) s run) _ (removed-known maps published maps-linked s x (remove k) k f (alone-accepted x (told-by (s .world) x (remove k) .numbers) (one (s .world) x (remove k)) r) e) in
     ap (λ n. n .case) (o .0 ∙ looked-removed maps (g .world x) f k (λ v i e. lookingUp FOUND v i e) (λ e. lookingUp ABSENT 0 0 e) b)
+
+-- Reserve, on any memory of right sizes in which examining every slot shows no damage: room exactly when the slots that are not live suffice, and the arena bytes that are not used; 7 exactly when the slots do not, 8 exactly when they do and the bytes do not.
+pub reserve-exactly : (w : World maps) (x n b : ℕ) → maps .sized (w x) ≡ true → (AnyDamage maps (w x) → ⊥) → RoomTold (maps .size (w x) - live-count maps (w x)) (maps .bytes (w x) - used maps (w x)) n b (told-by w x (reserve (n, b)) .numbers)
+unfolding told-by reserveOf
+reserve-exactly w x n b z h = reserve-told maps (w x) z h n b
+
+-- What insert and contains tell and leave.
+keys-told : KeysTold maps published keyCalls
+unfolding told-by insertOf containsOf storedSaid containedSaid
+keys-told = record {
+  fresh = λ w x k v i e q. rw q;
+  free = λ w x k v q. fresh-said (storedSaid (usedOf (w x .spans))) (λ n. refl) (λ i u e p. omega arith) (Calls.entry maps (w x) k) q;
+  leaves = λ w x k v. placed-here w x (after-insert maps (w x) k v);
+  gone = λ w x k q. absent-said containedSaid (λ n. refl) (λ u i e p. omega arith) (Calls.get maps (w x) k) q;
+}
+
+-- After any published calls on any memory, on a table that is then known: where reserve tells room, any so many different absent keys that may be stored, of that many bytes in all, go in, in any order, each told fresh, and fewer do too; and where so many went in so, reserve tells room.
+pub reserve-goes-in : (cs : List (ℕ × Call)) (w : World maps) (x : ℕ) → isSome (afterCalls maps published cs w .maps x) ≡ true → (n b : ℕ) → Reserves maps published keyCalls x (afterCalls maps published cs w .world) (reserve (n, b)) n b
+unfolding told-by reserveOf
+reserve-goes-in cs w x k n b = reserves-told maps published keyCalls keys-told maps-lawful x maps-linked cs w k (reserve (n, b)) n b refl
+
+-- On any memory reserve is refused 5, whatever is asked for, exactly where the insert of a key that may be stored is.
+pub reserve-5-as-insert : (w : World maps) (x n b : ℕ) (k : List ℕ) (v : ℕ) → maps .kept k ≡ 0 → (told-by w x (reserve (n, b)) .numbers .refusal ≡ 5) ↔ (told-by w x (insert k v) .numbers .refusal ≡ 5)
+unfolding told-by reserveOf insertOf
+reserve-5-as-insert w x n b k v y = rw (roomSaid-refusal (Calls.reserve maps (w x) n b), storedSaid-refusal (usedOf (w x .spans)) (Calls.entry maps (w x) k)) (Laws.reserve-5-as-insert maps (maps-lawful .homes) (w x) (any-damage-is values (w x)) n b k y)

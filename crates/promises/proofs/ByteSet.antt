@@ -4,6 +4,7 @@
 use Prim.Native.Nat.{ℕ, suc, _-_}
 use mathlib.Core.Bool.{true, false}
 use mathlib.Core.List.{List, [], _∷_}
+use mathlib.Core.Logic.{_↔_}
 use mathlib.Core.Option.{some}
 use mathlib.Core.Path.{_≡_, refl, sym, _∙_, ap}
 use native.Mathlib.Omega.{arith}
@@ -12,15 +13,16 @@ use lib.ListN.{length}
 use Rattle.model.specs.Calls.{ok, Or, no, Seen, found, absent, Spot, occupied, vacant, after-insert}
 use Rattle.model.specs.Machine.{fine, number, truth, seen, spot, stepped, tells, leaves, answer, left, stepping, World}
 use Rattle.model.specs.Lawful.{Lawful}
-use Rattle.model.specs.Demand1.{First, Least, refusal, numberIn}
+use Rattle.model.specs.Demand1.{First, Least, AnyDamage, refusal, numberIn}
 use Rattle.model.specs.Demand2.{keyOf, Book}
 use Rattle.model.specs.Demand3.{has, walkAfter, times, handed, Walked}
 use Rattle.model.specs.Iterated.{onlySteps, Iterated}
 use Rattle.model.specs.Finite.{Finite, isSome}
-use Rattle.model.specs.Store.{pathLength}
+use Rattle.model.specs.Store.{pathLength, live-count, used}
 use Rattle.model.specs.Places.{run-names}
 use Rattle.model.proofs.Cases.{clash}
 use Rattle.model.proofs.Iterated.{walk-once}
+use Rattle.model.proofs.Laws
 use Rattle.model.proofs.Least.{rising}
 use Rattle.model.proofs.Runs.{placed-here}
 use Rattle.model.proofs.Numbered.{step-numbered}
@@ -35,20 +37,23 @@ use Rattle.kinds.specs.Owed.{refusing, only, spanning, lookingUp}
 use Rattle.kinds.proofs.Owed.{get-owed, remove-owed, entry-owed, length-owed, capacity-owed, reserve-owed, copy-owed, step-owed, get-counted, remove-counted, entry-counted, zeros, looked-inserted, looked-removed, paces-once}
 use Rattle.kinds.specs.Columns.{nothing}
 use Rattle.kinds.specs.Published.{Linked, ZerosElsewhere, PathCounted, askedBy, givenTo, Right, ToldInStep, unknown, noted, afterCalls, Step, walkOf}
+use Rattle.kinds.specs.Reserving.{RoomTold, Reserves}
 use Rattle.kinds.specs.Told.{told}
 use Rattle.kinds.proofs.Columns.{nothing-lawful}
 use Rattle.kinds.proofs.Simple.{simply-linked, alone-accepted}
 use Rattle.kinds.proofs.Published.{reported, lowest-told, refused-same, named-only, lent-zeros, inserted-known, removed-known, told-in-step, told-owed, told-rest, walk-told, iterated-told, heard-step}
+use Rattle.kinds.proofs.Reserving.{reserve-told, fresh-said, absent-said, KeysTold, reserves-told}
 use Rattle.kinds.specs.Calls.{makeOf, capacityOf, lenOf, isEmptyOf, reserveOf, containsOf, copyOf, droppedOf}
 use Rattle.kinds.specs.Moved.{movedOn}
 use Rattle.byte_slots.specs.Memory.{ByteMemory, part, usedOf, askedOf, offsetAt, lengthAt}
 use Rattle.byte_slots.specs.Kinds.{sets, setInsertOf, setGetOf, setStepOf}
 use Rattle.byte_slots.specs.Places.{Place, wordIn, places}
+use Rattle.byte_slots.proofs.Bridge.{any-damage-is}
 use Rattle.byte_slots.proofs.Keys.{asked-bar, kept-bar}
 use Rattle.byte_slots.proofs.Lawful.{byte-lawful}
 use Rattle.byte_slots.proofs.Places.{byte-steady, byte-apart}
 use Rattle.promises.proofs.Spans.{found-bytes, handed-slot, fresh-bytes, used-told}
-use Rattle.promises.specs.ByteSet.{Call, make, clear, capacity, len, is-empty, reserve, get, contains, insert, remove, copy, step, told-by, one, simple, published, keyTold, Owes, heard, lent-by, owed, Stands}
+use Rattle.promises.specs.ByteSet.{Call, make, clear, capacity, len, is-empty, reserve, get, contains, insert, remove, copy, step, told-by, one, simple, published, keyCalls, keyTold, Owes, heard, lent-by, owed, Stands}
 use Rattle.promises.specs.SetAlphabet.{setOne}
 
 -- Byte sets are a lawful store.
@@ -63,7 +68,7 @@ number-told w x clear = doneSaid-refusal _ ∙ sym (reported (λ n. fine) (λ a.
 number-told w x capacity = countSaid-refusal _ ∙ sym (reported number (λ a. refl) _)
 number-told w x len = countSaid-refusal _ ∙ sym (reported number (λ a. refl) _)
 number-told w x is-empty = emptySaid-refusal _ ∙ sym (reported (λ n. truth (eqb n 0)) (λ a. refl) _)
-number-told w x (reserve n) = roomSaid-refusal _ ∙ sym (reported (λ u. fine) (λ a. refl) _)
+number-told w x (reserve (n, b)) = roomSaid-refusal _ ∙ sym (reported (λ u. fine) (λ a. refl) _)
 number-told w x (get k) = spannedSaid-refusal (offsetAt (w x .spans)) (lengthAt (w x .spans)) _ ∙ sym (reported seen (λ a. refl) _)
 number-told w x (contains k) = containedSaid-refusal _ ∙ sym (reported seen (λ a. refl) _)
 number-told w x (insert k) = joinedSaid-refusal _ _ ∙ sym (reported spot (λ a. refl) _)
@@ -79,7 +84,7 @@ memory-told w x clear = refl
 memory-told w x capacity = refl
 memory-told w x len = refl
 memory-told w x is-empty = refl
-memory-told w x (reserve n) = refl
+memory-told w x (reserve (n, b)) = refl
 memory-told w x (get k) = refl
 memory-told w x (contains k) = refl
 memory-told w x (insert k) = refl
@@ -109,7 +114,7 @@ owes-told s h x clear f e = capacity-owed sets sets-lawful (s .world x) f (h x f
 owes-told s h x capacity f e = capacity-owed sets sets-lawful (s .world x) f (h x f e) countSaid _ refl
 owes-told s h x len f e = length-owed sets sets-lawful (s .world x) f (h x f e) countSaid _ refl
 owes-told s h x is-empty f e = length-owed sets sets-lawful (s .world x) f (h x f e) emptySaid _ refl
-owes-told s h x (reserve a) f e = reserve-owed sets sets-lawful (s .world x) f (h x f e) roomSaid (only ROOM) (λ n. refl) refl a
+owes-told s h x (reserve (a, b)) f e = reserve-owed sets sets-lawful (s .world x) f (h x f e) roomSaid (only ROOM) (λ n. refl) refl a b
 owes-told s h x (copy y) f e = copy-owed sets sets-lawful (s .world x) f (h x f e) doneSaid (only DONE) (λ n. refl) refl (s .world y)
 owes-told s h x (get k) f e = get-owed sets sets-lawful (s .world x) f (h x f e) (spannedSaid (offsetAt ((s .world x) .spans)) (lengthAt ((s .world x) .spans))) _ _ (λ n. refl) (λ v i e. refl) (λ e. refl) k
 owes-told s h x (contains k) f e = get-owed sets sets-lawful (s .world x) f (h x f e) containedSaid _ _ (λ n. refl) (λ v i e. refl) (λ e. refl) k
@@ -124,7 +129,7 @@ owes-once s x f clear n o p q = p ∙ sym q
 owes-once s x f capacity n o p q = p ∙ sym q
 owes-once s x f len n o p q = p ∙ sym q
 owes-once s x f is-empty n o p q = p ∙ sym q
-owes-once s x f (reserve a) n o p q = p ∙ sym q
+owes-once s x f (reserve (a, b)) n o p q = p ∙ sym q
 owes-once s x f (copy y) n o p q = p ∙ sym q
 owes-once s x f (get k) n o p q = p ∙ sym q
 owes-once s x f (contains k) n o p q = p ∙ sym q
@@ -156,7 +161,7 @@ refused-zeros w x clear h = zeros doneSaid 0 (λ n. refl) (λ y. refl) (Calls.ca
 refused-zeros w x capacity h = zeros countSaid 0 (λ n. refl) (λ y. refl) (Calls.capacity sets (w x)) h
 refused-zeros w x len h = zeros countSaid 0 (λ n. refl) (λ y. refl) (Calls.length sets (w x)) h
 refused-zeros w x is-empty h = zeros emptySaid 0 (λ n. refl) (λ y. emptySaid-refusal (ok y)) (Calls.length sets (w x)) h
-refused-zeros w x (reserve n) h = zeros roomSaid 0 (λ n. refl) (λ y. refl) (Calls.reserve sets (w x) n) h
+refused-zeros w x (reserve (n, b)) h = zeros roomSaid 0 (λ n. refl) (λ y. refl) (Calls.reserve sets (w x) n b) h
 refused-zeros w x (copy y) h = zeros doneSaid 0 (λ n. refl) (λ y. refl) (Calls.copy sets (w x) (w y)) h
 refused-zeros w x (get k) h = zeros (spannedSaid (offsetAt (w x .spans)) (lengthAt (w x .spans))) 0 (λ n. refl) (λ y. spannedSaid-refusal (offsetAt (w x .spans)) (lengthAt (w x .spans)) (ok y)) (Calls.get sets (w x) k) h
 refused-zeros w x (contains k) h = zeros containedSaid 0 (λ n. refl) (λ y. containedSaid-refusal (ok y)) (Calls.get sets (w x) k) h
@@ -180,7 +185,7 @@ demand-2-examined w x clear k q e = clash cc
 demand-2-examined w x capacity k q e = clash cc
 demand-2-examined w x len k q e = clash cc
 demand-2-examined w x is-empty k q e = clash cc
-demand-2-examined w x (reserve n) k q e = clash cc
+demand-2-examined w x (reserve (n, b)) k q e = clash cc
 demand-2-examined w x (copy y) k q e = clash cc
 demand-2-examined w x (get a) k q e = get-counted sets (w x) a (spannedSaid (offsetAt (w x .spans)) (lengthAt (w x .spans))) (λ n. refl) (λ v i e. refl) (λ e. refl) e ∙ ap (pathLength sets (w x)) (cc)
 demand-2-examined w x (contains a) k q e = get-counted sets (w x) a containedSaid (λ n. refl) (λ v i e. refl) (λ e. refl) e ∙ ap (pathLength sets (w x)) (cc)
@@ -253,3 +258,28 @@ told-after-remove s h x f e k b r =
     let run = told-in-step sets published sets-linked sets-lawful owed (λ s h x c f e. (owes-told s h x c f e, stands-after (s .world) x c)) ((x, remove k) ∷ (x, contains k) ∷ []) s h in
     let o = told-owed sets published sets-linked owed x (contains k) [] g (told-rest sets published sets-linked owed x (remove k) ((x, contains k) ∷ []) s run) _ (removed-known sets published sets-linked s x (remove k) k f (alone-accepted x (told-by (s .world) x (remove k) .numbers) (one (s .world) x (remove k)) r) e) in
     ap (λ n. n .case) (o .0 ∙ looked-removed sets (g .world x) f k (λ v i e. lookingUp PRESENT 0 0 e) (λ e. lookingUp ABSENT 0 0 e) b)
+
+-- Reserve, on any memory of right sizes in which examining every slot shows no damage: room exactly when the slots that are not live suffice, and the arena bytes that are not used; 7 exactly when the slots do not, 8 exactly when they do and the bytes do not.
+pub reserve-exactly : (w : World sets) (x n b : ℕ) → sets .sized (w x) ≡ true → (AnyDamage sets (w x) → ⊥) → RoomTold (sets .size (w x) - live-count sets (w x)) (sets .bytes (w x) - used sets (w x)) n b (told-by w x (reserve (n, b)) .numbers)
+unfolding told-by reserveOf
+reserve-exactly w x n b z h = reserve-told sets (w x) z h n b
+
+-- What insert and contains tell and leave.
+keys-told : KeysTold sets published keyCalls
+unfolding told-by setInsertOf containsOf joinedSaid containedSaid
+keys-told = record {
+  fresh = λ w x k v i e q. rw q;
+  free = λ w x k v q. fresh-said (joinedSaid (usedOf (w x .spans))) (λ n. refl) (λ i u e p. omega arith) (Calls.entry sets (w x) k) q;
+  leaves = λ w x k v. placed-here w x (after-insert sets (w x) k v);
+  gone = λ w x k q. absent-said containedSaid (λ n. refl) (λ u i e p. omega arith) (Calls.get sets (w x) k) q;
+}
+
+-- After any published calls on any memory, on a table that is then known: where reserve tells room, any so many different absent keys that may be stored, of that many bytes in all, go in, in any order, each told fresh, and fewer do too; and where so many went in so, reserve tells room.
+pub reserve-goes-in : (cs : List (ℕ × Call)) (w : World sets) (x : ℕ) → isSome (afterCalls sets published cs w .maps x) ≡ true → (n b : ℕ) → Reserves sets published keyCalls x (afterCalls sets published cs w .world) (reserve (n, b)) n b
+unfolding told-by reserveOf
+reserve-goes-in cs w x k n b = reserves-told sets published keyCalls keys-told sets-lawful x sets-linked cs w k (reserve (n, b)) n b refl
+
+-- On any memory reserve is refused 5, whatever is asked for, exactly where the insert of a key that may be stored is.
+pub reserve-5-as-insert : (w : World sets) (x n b : ℕ) (k : List ℕ) → sets .kept k ≡ 0 → (told-by w x (reserve (n, b)) .numbers .refusal ≡ 5) ↔ (told-by w x (insert k) .numbers .refusal ≡ 5)
+unfolding told-by reserveOf setInsertOf
+reserve-5-as-insert w x n b k y = rw (roomSaid-refusal (Calls.reserve sets (w x) n b), joinedSaid-refusal (usedOf (w x .spans)) (Calls.entry sets (w x) k)) (Laws.reserve-5-as-insert sets (sets-lawful .homes) (w x) (any-damage-is nothing (w x)) n b k y)

@@ -1,28 +1,30 @@
 -- The three demands for the integer map, over its published calls.
 -- One line a call in each theorem. That a call tells what it owes is a law of kinds/proofs/Owed.antt, given the function that tells its answer and, by `refl`,
 -- what that function tells of a refusal and of each case. The demands then follow from the theory by kinds/proofs/Published.antt.
-use Prim.Native.Nat.{ℕ}
+use Prim.Native.Nat.{ℕ, _-_}
 use mathlib.Core.Bool.{true, false}
 use mathlib.Core.List.{List, [], _∷_}
 use mathlib.Core.Logic.{inl}
 use mathlib.Core.Option.{some}
 use mathlib.Core.Path.{_≡_, refl, sym, _∙_, ap}
+use native.Mathlib.Omega.{arith}
 use lib.Dec.{eqb}
 use lib.ListN.{length}
-use Rattle.model.specs.Calls.{ok, give, union, Handle, on-occupied, on-vacant}
+use Rattle.model.specs.Calls.{ok, give, union, Handle, on-occupied, on-vacant, after-insert}
 use Rattle.model.specs.Calls
 use Rattle.model.specs.Machine.{fine, number, truth, seen, spot, value, stepped, tells, leaves, answer, left, stepping, World}
 use Rattle.model.specs.Lawful.{Lawful}
-use Rattle.model.specs.Demand1.{First, Least, refusal, numberIn}
+use Rattle.model.specs.Demand1.{First, Least, AnyDamage, refusal, numberIn}
 use Rattle.model.specs.Demand2.{keyOf, Book}
 use Rattle.model.specs.Demand3.{has, walkAfter, times, handed, Walked}
 use Rattle.model.specs.Iterated.{onlySteps, Iterated}
 use Rattle.model.specs.Finite.{Finite, isSome}
-use Rattle.model.specs.Store.{pathLength}
+use Rattle.model.specs.Store.{pathLength, live-count, used}
 use Rattle.model.specs.Places.{run-names}
 use Rattle.model.proofs.Cases.{clash}
 use Rattle.model.proofs.Iterated.{walk-once}
 use Rattle.model.proofs.Least.{rising}
+use Rattle.model.proofs.Runs.{placed-here}
 use Rattle.model.proofs.Numbered.{step-numbered}
 use Rattle.answers.specs.Cases.{DONE, ROOM, FOUND, ABSENT}
 use Rattle.answers.specs.Said.{doneSaid, countSaid, emptySaid, roomSaid, gotSaid, containedSaid, removedSaid, enteredSaid, insertedSaid, heldSaid, swappedSaid, takenSaid, takenEntrySaid, inSlotSaid, stepSaid, pairHanded}
@@ -32,10 +34,12 @@ use Rattle.kinds.specs.Owed.{refusing, unless, only, keeping, replacing, lookin
 use Rattle.kinds.proofs.Owed.{get-owed, remove-owed, entry-owed, held-owed, taken-owed, filled-owed, length-owed, capacity-owed, reserve-owed, copy-owed, union-owed, step-owed, get-counted, remove-counted, entry-counted, zeros, union-known-owed, looked-inserted, looked-removed, paces-once}
 use Rattle.kinds.specs.Columns.{values}
 use Rattle.kinds.specs.Published.{Linked, ZerosElsewhere, PathCounted, askedBy, givenTo, Right, ToldInStep, unknown, noted, afterCalls, Step, walkOf}
+use Rattle.kinds.specs.Reserving.{RoomTold, Reserves}
 use Rattle.kinds.specs.Told.{told}
 use Rattle.kinds.proofs.Columns.{values-lawful}
 use Rattle.kinds.proofs.Simple.{simply-linked, alone-accepted}
 use Rattle.kinds.proofs.Published.{reported, lowest-told, refused-same, named-only, lent-zeros, inserted-known, removed-known, told-in-step, told-owed, told-rest, walk-told, iterated-told, heard-step}
+use Rattle.kinds.proofs.Reserving.{reserve-told, fresh-said, absent-said, KeysTold, reserves-told}
 use Rattle.kinds.specs.Calls.{makeOf, removeOf, capacityOf, lenOf, isEmptyOf, reserveOf, getOf, containsOf, copyOf, unionOf, setOf, entryOf, orInsertOf, insertEntryOf, heldOf, takenOf, vacantInsertOf, slotOf}
 use Rattle.kinds.specs.Moved.{movedOn}
 use Rattle.int_slots.specs.Places.{Place, wordIn, places}
@@ -45,7 +49,7 @@ use Rattle.int_slots.specs.Maps.{maps}
 use Rattle.int_map_entry.specs.Calls.{handleOf}
 use Rattle.int_slots.specs.Kinds.{insertOf, removeEntryOf}
 use Rattle.int_slots.specs.Steps.{stepOf}
-use Rattle.promises.specs.IntMap.{Call, make, clear, capacity, len, is-empty, reserve, get, contains-key, remove, entry, copy, union-prefer-right, insert, occupied-get, occupied-remove, occupied-remove-entry, step, occupied-set, vacant-insert, or-insert, insert-entry, told-by, one, simple, published, pairTold, Owes, heard, lent-by, owed}
+use Rattle.promises.specs.IntMap.{Call, make, clear, capacity, len, is-empty, reserve, get, contains-key, remove, entry, copy, union-prefer-right, insert, occupied-get, occupied-remove, occupied-remove-entry, step, occupied-set, vacant-insert, or-insert, insert-entry, told-by, one, simple, published, keyCalls, pairTold, Owes, heard, lent-by, owed}
 use Rattle.promises.specs.MapAlphabet.{mapOne}
 
 -- Integer maps are a lawful store.
@@ -124,7 +128,7 @@ owes-told s h x clear f e = capacity-owed maps maps-lawful (s .world x) f (h x f
 owes-told s h x capacity f e = capacity-owed maps maps-lawful (s .world x) f (h x f e) countSaid _ refl
 owes-told s h x len f e = length-owed maps maps-lawful (s .world x) f (h x f e) countSaid _ refl
 owes-told s h x is-empty f e = length-owed maps maps-lawful (s .world x) f (h x f e) emptySaid _ refl
-owes-told s h x (reserve a) f e = reserve-owed maps maps-lawful (s .world x) f (h x f e) roomSaid (only ROOM) (λ n. refl) refl a
+owes-told s h x (reserve a) f e = reserve-owed maps maps-lawful (s .world x) f (h x f e) roomSaid (only ROOM) (λ n. refl) refl a 0
 owes-told s h x (get k) f e = get-owed maps maps-lawful (s .world x) f (h x f e) gotSaid _ _ (λ n. refl) (λ v i e. refl) (λ e. refl) k
 owes-told s h x (contains-key k) f e = get-owed maps maps-lawful (s .world x) f (h x f e) containedSaid _ _ (λ n. refl) (λ v i e. refl) (λ e. refl) k
 owes-told s h x (remove k) f e = remove-owed maps maps-lawful (s .world x) f (h x f e) removedSaid _ _ (λ n. refl) (λ v i e. refl) (λ e. refl) k
@@ -200,7 +204,7 @@ refused-zeros w x clear h = zeros doneSaid 0 (λ n. refl) (λ y. refl) (Calls.ca
 refused-zeros w x capacity h = zeros countSaid 0 (λ n. refl) (λ y. refl) (Calls.capacity maps (w x)) h
 refused-zeros w x len h = zeros countSaid 0 (λ n. refl) (λ y. refl) (Calls.length maps (w x)) h
 refused-zeros w x is-empty h = zeros emptySaid 0 (λ n. refl) (λ y. emptySaid-refusal (ok y)) (Calls.length maps (w x)) h
-refused-zeros w x (reserve n) h = zeros roomSaid 0 (λ n. refl) (λ y. refl) (Calls.reserve maps (w x) n) h
+refused-zeros w x (reserve n) h = zeros roomSaid 0 (λ n. refl) (λ y. refl) (Calls.reserve maps (w x) n 0) h
 refused-zeros w x (get k) h = zeros gotSaid 0 (λ n. refl) (λ y. gotSaid-refusal (ok y)) (Calls.get maps (w x) k) h
 refused-zeros w x (contains-key k) h = zeros containedSaid 0 (λ n. refl) (λ y. containedSaid-refusal (ok y)) (Calls.get maps (w x) k) h
 refused-zeros w x (remove k) h = zeros removedSaid 0 (λ n. refl) (λ y. removedSaid-refusal (ok y)) (Calls.remove maps (w x) k) h
@@ -283,3 +287,23 @@ told-after-remove s h x f e k r =
     let run = told-in-step maps published maps-linked maps-lawful owed owes-told ((x, remove k) ∷ (x, get k) ∷ []) s h in
     let o = told-owed maps published maps-linked owed x (get k) [] g (told-rest maps published maps-linked owed x (remove k) ((x, get k) ∷ []) s run) _ (removed-known maps published maps-linked s x (remove k) k f (alone-accepted x (told-by (s .world) x (remove k) .numbers) (one (s .world) x (remove k)) r) e) in
     ap (λ n. n .case) (o ∙ looked-removed maps (g .world x) f k (λ v i e. lookingUp FOUND v i e) (λ e. lookingUp ABSENT 0 0 e) refl)
+
+-- Reserve, on any memory of right sizes in which examining every slot shows no damage: room exactly when the slots that are not live suffice; 7 exactly when they do not.
+pub reserve-exactly : (w : World maps) (x n : ℕ) → maps .sized (w x) ≡ true → (AnyDamage maps (w x) → ⊥) → RoomTold (maps .size (w x) - live-count maps (w x)) (maps .bytes (w x) - used maps (w x)) n 0 (told-by w x (reserve n) .numbers)
+unfolding told-by reserveOf
+reserve-exactly w x n z h = reserve-told maps (w x) z h n 0
+
+-- What insert and contains tell and leave.
+keys-told : KeysTold maps published keyCalls
+unfolding told-by insertOf containsOf insertedSaid containedSaid
+keys-told = record {
+  fresh = λ w x k v i e q. rw q;
+  free = λ w x k v q. fresh-said insertedSaid (λ n. refl) (λ i u e p. omega arith) (Calls.entry maps (w x) k) q;
+  leaves = λ w x k v. placed-here w x (after-insert maps (w x) k v);
+  gone = λ w x k q. absent-said containedSaid (λ n. refl) (λ u i e p. omega arith) (Calls.get maps (w x) k) q;
+}
+
+-- After any published calls on any memory, on a table that is then known: where reserve tells room, any so many different absent keys that may be stored go in, in any order, each told fresh, and fewer do too; and where so many went in so, reserve tells room.
+pub reserve-goes-in : (cs : List (ℕ × Call)) (w : World maps) (x : ℕ) → isSome (afterCalls maps published cs w .maps x) ≡ true → (n : ℕ) → Reserves maps published keyCalls x (afterCalls maps published cs w .world) (reserve n) n 0
+unfolding told-by reserveOf
+reserve-goes-in cs w x k n = reserves-told maps published keyCalls keys-told maps-lawful x maps-linked cs w k (reserve n) n 0 refl

@@ -3,7 +3,7 @@ use Prim.Native.Nat.{ℕ, _-_}
 use mathlib.Core.Bool.{cond}
 use mathlib.Core.Path.{_≡_}
 use mathlib.Core.List.{List}
-use lib.Dec.{leb, eqb}
+use lib.Dec.{eqb}
 use lib.ListN.{length}
 use Rattle.model.specs.Slots.{live}
 use Rattle.model.specs.Machine as model
@@ -19,16 +19,17 @@ use Rattle.kinds.specs.Columns.{nothing}
 use Rattle.kinds.specs.Told.{ToldAndLeft, told}
 use Rattle.kinds.specs.Calls.{makeOf, capacityOf, lenOf, isEmptyOf, reserveOf, containsOf, copyOf, droppedOf}
 use Rattle.kinds.specs.Published.{Published, Simple, simply, Duty, heardAs}
-use Rattle.kinds.specs.Owed.{refusing, only, counting, lookingUp, copying, looking, placing, OwesStep, spanning, handing}
+use Rattle.kinds.specs.Owed.{only, counting, lookingUp, copying, looking, placing, reserving, OwesStep, spanning, handing}
+use Rattle.kinds.specs.Reserving.{KeyCalls}
 use Rattle.kinds.specs.Moved.{movedOn}
 use Rattle.byte_slots.specs.Memory.{ByteMemory, part, offsetAt, lengthAt}
 use Rattle.byte_slots.specs.Kinds.{sets, setInsertOf, setGetOf, setStepOf}
 pub use Rattle.promises.specs.SetAlphabet.{make, clear, capacity, len, is-empty, reserve, copy, get, contains, insert, remove, step}
 use Rattle.promises.specs.SetAlphabet.{SetCall, setOne}
 
--- A set's calls, over this kind's keys.
+-- A set's calls, over this kind's keys and what its reserve is asked for.
 abbrev pub Call : Type 0
-Call = SetCall (List ℕ)
+Call = SetCall (List ℕ) (ℕ × ℕ)
 
 -- What a call on the table x tells and leaves: the definition that its contract cites.
 unfoldable pub told-by : World sets → ℕ → Call → ToldAndLeft (ByteMemory nothing)
@@ -37,7 +38,7 @@ told-by w x clear = makeOf sets (w x)
 told-by w x capacity = told (capacityOf sets (w x)) (w x)
 told-by w x len = told (lenOf sets (w x)) (w x)
 told-by w x is-empty = told (isEmptyOf sets (w x)) (w x)
-told-by w x (reserve n) = told (reserveOf sets (w x) n) (w x)
+told-by w x (reserve (n, b)) = told (reserveOf sets (w x) n b) (w x)
 told-by w x (copy y) = copyOf sets (w x) (w y)
 told-by w x (get k) = told (setGetOf (w x) k) (w x)
 told-by w x (contains k) = told (containsOf sets (w x) k) (w x)
@@ -45,9 +46,13 @@ told-by w x (insert k) = setInsertOf (w x) k
 told-by w x (remove k) = droppedOf sets (w x) k
 told-by w x (step at budget) = told (setStepOf (w x) at budget) (w x)
 
+-- What reserve is asked for: so many keys, of so many bytes in all.
+abbrev pub asked : ℕ × ℕ → ℕ × ℕ
+asked r = r
+
 -- The one call of the theory that it is.
 unfoldable pub one : World sets → ℕ → Call → model.Call (List ℕ) (Unit {0})
-one w x c = setOne c
+one w x c = setOne asked c
 
 -- The step of a lent walk: what it tells, and the walk that it leaves in its place.
 unfoldable pub lent-by : World sets → ℕ → ℕ → ℕ → ToldAndLeft ℕ
@@ -65,6 +70,10 @@ simple = record { Call = Call; told-by = told-by; one = one; step = step; lent-b
 abbrev pub published : Published sets
 published = simply simple
 
+-- Its insert and its contains, by which reserve's promise speaks.
+abbrev pub keyCalls : KeyCalls sets published
+keyCalls = record { insert = λ k v. insert k; contains = contains }
+
 -- A key that a step hands out, by its slot's part of the arena.
 abbrev pub keyTold : ByteMemory nothing → List ℕ → Unit {0} → ℕ → ℕ → ℕ → Numbers
 keyTold m k v slot walk e = handing 0 0 (offsetAt (m .spans) slot) (lengthAt (m .spans) slot) walk e
@@ -76,7 +85,7 @@ Owes s x f clear n = n ≡ only DONE
 Owes s x f capacity n = n ≡ counting COUNT (sets .size (s .world x))
 Owes s x f len n = n ≡ counting COUNT (Finite.len f)
 Owes s x f is-empty n = n ≡ cond (eqb (Finite.len f) 0) (only EMPTY) (only HOLDS)
-Owes s x f (reserve a) n = n ≡ cond (leb a (sets .size (s .world x) - Finite.len f)) (only ROOM) (refusing 7 0)
+Owes s x f (reserve (a, b)) n = n ≡ reserving sets (s .world x) f a b (only ROOM)
 Owes s x f (copy y) n = n ≡ copying sets (s .world x) (s .world y) (only DONE)
 Owes s x f (get k) n = n ≡ looking sets (s .world x) f k (λ v i e. spanning FOUND i e (offsetAt (s .world x .spans) i) (lengthAt (s .world x .spans) i)) (λ e. lookingUp ABSENT 0 0 e)
 Owes s x f (contains k) n = n ≡ looking sets (s .world x) f k (λ v i e. lookingUp PRESENT 0 0 e) (λ e. lookingUp ABSENT 0 0 e)

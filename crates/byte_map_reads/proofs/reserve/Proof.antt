@@ -9,5 +9,5 @@ use Rattle.byte_map_reads.proofs.reserve.Tie as tie
 
 pub reserve-spec : {M : Type 1} → statement M
 reserve-spec = tie.close (tie.spec
-    (λ c κs. search needs) (λ c. c .reserve .ensures ∙ reserve-beside maps sets (as-set _ (c .before .if1 .taken)) _)
-    (λ c. reserve-short _ (c .if1 .left) _))
+    (λ c κs. search needs) (λ c. c .reserve .ensures ∙ reserve-beside maps sets (as-set _ (c .before .if1 .taken)) _ _)
+    (λ c. reserve-short _ (c .if1 .left) _ _))

@@ -1,25 +1,36 @@
--- `byte_set_reads::reserve` meets its contract: refusals 1, 5 and 7, or room.
+-- `byte_set_reads::reserve` meets its contract: refusals 1, 5, 7 and 8, or room.
+use mathlib.Core.Path.{sym, _∙_}
 use borrow.Author.Needs.{needs}
-use native.Mathlib.Omega.{arith}
+use Rattle.kinds.proofs.Sizing.{reserve-unsized}
 use Rattle.byte_slots.specs.Kinds.{sets}
-use Rattle.kinds.proofs.Counts.{count-within, reserve-room, reserve-none, reserve-not}
+use Rattle.byte_slots.proofs.Lives.{live-marks-within}
+use Rattle.byte_slots.proofs.Plans.{surveyed-within}
+use Rattle.byte_slots.proofs.Sets.{unfit}
+use Rattle.byte_set_reads.proofs.Laws.{reserve-bad, reserve-by}
 use Rattle.byte_set_reads.proofs.reserve.Statement.{statement}
 use Rattle.byte_set_reads.proofs.reserve.Tie as tie
 
-sub-if1 : tie.Need-sub-if1
-sub-if1 c = omega (arith, count-within sets _ (c .before .before .before .len .ensures) (c .before .count .given .1))
+survey-requires : tie.Need-survey-requires
+survey-requires c κs = sym (c .before .fits2 .ensures) ∙ c .if1 .taken
 
 returns : tie.Need-returns
-returns c = reserve-room sets _ (c .before .before .before .before .len .ensures) (c .before .before .count .given .1) (c .if1 .taken)
+returns c = reserve-bad _ (c .before .before .before .before .fits2 .ensures) (c .before .before .before .if1 .taken) (c .before .before .survey .ensures) _ _ (c .enum-told .given .1)
+
+sub-slots : tie.Need-sub-slots
+sub-slots c = live-marks-within _ (c .live-marks .ensures)
+
+sub-reserved-by : tie.Need-sub-reserved-by
+sub-reserved-by c = surveyed-within _ (c .before .before .before .before .survey .ensures) (c .before .before .found .given .1)
 
 returns-2 : tie.Need-returns-2
-returns-2 c = reserve-none sets _ (c .before .before .before .before .len .ensures) (c .before .before .count .given .1) (c .if1 .left)
+returns-2 c = reserve-by _ (c .before .before .before .before .before .before .before .fits2 .ensures) (c .before .before .before .before .before .before .if1 .taken) (c .before .before .before .before .before .survey .ensures) _ _ (c .before .before .before .found .given .1) (c .before .live-marks .ensures) (c .reserved-by .ensures)
 
 returns-3 : tie.Need-returns-3
-returns-3 c = reserve-not sets _ (c .before .before .before .len .ensures) _ (c .before .count2 .given .1)
+returns-3 c = reserve-unsized sets _ (unfit _ (c .before .fits2 .ensures) (c .if1 .left)) _ _
 
 pub reserve-spec : {M : Type 1} → statement M
 reserve-spec =
     tie.close
     (tie.spec
-    (λ c κs. search needs) (λ c. search needs) sub-if1 returns (λ c. search needs) returns-2 returns-3)
+    (λ c κs. search needs) survey-requires (λ c. search needs) (λ c. search needs) returns (λ c κs. search needs) sub-slots sub-reserved-by
+    (λ c κs. search needs) returns-2 returns-3)

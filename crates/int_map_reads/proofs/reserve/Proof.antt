@@ -10,5 +10,5 @@ use Rattle.int_map_reads.proofs.reserve.Tie as tie
 
 pub reserve-spec : {M : Type 1} → statement M
 reserve-spec = tie.close (tie.spec
-    (λ c κs. search needs) (λ c. (search needs) ∙ reserve-beside maps sets (as-set _ (c .before .if1 .taken)) _)
+    (λ c κs. search needs) (λ c. (search needs) ∙ reserve-beside maps sets (as-set _ (c .before .if1 .taken)) _ 0)
     (λ c. reserve-short _ (c .if1 .left) _))

@@ -1,11 +1,11 @@
--- `byte_map_union::live_marks` meets its contract. The loop's invariant: so many of the marks passed are 1. The measure is how many are left.
+-- `byte_slots::live_marks` meets its contract. The loop's invariant: so many of the marks passed are 1. The measure is how many are left.
 use Prim.Native.Nat.{_-_}
 use lib.ListN.{length}
 use borrow.Author.Needs.{needs}
 use Rattle.kinds.proofs.Scanning.{counted-low}
-use Rattle.byte_map_union.proofs.Rooms.{Counting, count-start, count-more, count-end}
-use Rattle.byte_map_union.proofs.live_marks.Statement.{statement}
-use Rattle.byte_map_union.proofs.live_marks.Tie as tie
+use Rattle.byte_slots.proofs.Lives.{Counting, count-start, count-more, count-end}
+use Rattle.byte_slots.proofs.live_marks.Statement.{statement}
+use Rattle.byte_slots.proofs.live_marks.Tie as tie
 
 abbrev Inv-loop : tie.InvT-loop
 Inv-loop marks live₀ i₀ live i = Counting marks live i
