@@ -24,8 +24,8 @@ enum { MALFORMED = 2, WRONG = 3, MARGIN = 0xA5 };
 
 /* ---- The calls as text ---- */
 
-/* The words of each call after its name: k a key, v a value, s a slot, h occupied or vacant, a keys asked, y their bytes, w a walk, b a budget,
- * o the other table, 0 a number that has to be 0. */
+/* The words of each call after its name: k a key, v a value, s a slot, h occupied or vacant, a keys asked, y their bytes, w a walk,
+ * b a budget, o the other table, 0 a number that has to be 0. */
 static const struct {
     const char *name;
     const char *words;
