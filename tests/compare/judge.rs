@@ -78,13 +78,21 @@ struct Walk {
     handed: HashSet<Key>,
 }
 
-/// What is known of a table: its finite map, where it was made and changed by its own calls, its walks, and the keys and bytes that reserve
-/// said there is room for, as far as they are not spent.
+/// What reserve said there is room for: the keys asked for, and how many of them, with how many bytes, are not put in yet.
+#[derive(Clone, Copy)]
+pub struct Room {
+    asked: u64,
+    pub keys: u64,
+    pub bytes: u64,
+}
+
+/// What is known of a table: its finite map, where it was made and changed by its own calls, its walks, and what reserve said there is room
+/// for.
 #[derive(Default)]
 pub struct Judge {
     finite: Option<Finite>,
     walks: Vec<Walk>,
-    room: Option<(u64, u64)>,
+    room: Option<Room>,
 }
 
 type Verdict = Result<(), String>;
@@ -115,16 +123,27 @@ impl Judge {
         self.walks.iter().map(|walk| walk.at).enumerate().collect()
     }
 
-    /// The keys and bytes that reserve said there is room for, and that are not spent.
-    pub fn room(&self) -> Option<(u64, u64)> {
+    /// What reserve said there is room for.
+    pub fn room(&self) -> Option<Room> {
         self.room
     }
 
     /// Whether reserve promised that a call, the insert of an absent key of allowed length, goes in.
     pub fn promises(&self, call: &Call) -> bool {
         match (call, &self.finite, self.room) {
-            (Call::Insert(key, _), Some(finite), Some((keys, bytes))) => {
-                keys > 0 && key.room() <= bytes.min(255) && finite.get(key).is_none()
+            (Call::Insert(key, _), Some(finite), Some(room)) => {
+                room.keys > 0 && key.room() <= room.bytes.min(255) && finite.get(key).is_none()
+            }
+            _ => false,
+        }
+    }
+
+    /// Whether such an insert is the last of as many keys as asked for, two or more, and in byte tables takes the last of their bytes.
+    pub fn fills(&self, call: &Call) -> bool {
+        match (call, self.room) {
+            (Call::Insert(key, _), Some(room)) => {
+                let some = matches!(key, Key::Word(_)) || key.room() > 0;
+                self.promises(call) && room.asked > 1 && room.keys == 1 && some && room.bytes == key.room()
             }
             _ => false,
         }
@@ -133,8 +152,8 @@ impl Judge {
     /// Keeps what reserve said, less what was put in since; another change ends it.
     fn keep_room(&mut self, call: &Call, answer: &Answer, promised: bool, same: bool) {
         self.room = match (call, answer, self.room) {
-            (Call::Reserve(keys, bytes), Answer::Room, _) => Some((*keys, *bytes)),
-            (Call::Insert(key, _), _, Some((keys, bytes))) if promised => Some((keys - 1, bytes - key.room())),
+            (Call::Reserve(keys, bytes), Answer::Room, _) => Some(Room { asked: *keys, keys: *keys, bytes: *bytes }),
+            (Call::Insert(key, _), _, Some(room)) if promised => Some(Room { keys: room.keys - 1, bytes: room.bytes - key.room(), ..room }),
             (_, _, room) => room.filter(|_| same),
         };
     }

@@ -64,7 +64,7 @@ impl Stage<'_> {
             return Err("refused and stored".to_string());
         }
         if self.judges[on].promises(call) {
-            self.tally.note_told(self.scene.kind, call);
+            self.tally.note_told(self.scene.kind, call, self.judges[on].fills(call));
         }
         self.judge(on, &before, call, walk, &answer)?;
         self.scene.note(call, &answer);
@@ -100,8 +100,8 @@ fn scenario(random: &mut Random, number: u64, tally: &mut Tally) -> String {
             println!("{}the rules and the finite map differ: {words}", stage.text);
             exit(1);
         }
-        if let (Call::Reserve(..), Some((keys, bytes))) = (&call, stage.judges[on].room()) {
-            stage.scene.spend(random, on, keys, bytes);
+        if let (Call::Reserve(..), Some(room)) = (&call, stage.judges[on].room()) {
+            stage.scene.spend(random, on, room.keys, room.bytes);
         }
     }
     stage.text + "end\n"

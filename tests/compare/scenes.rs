@@ -55,7 +55,7 @@ pub struct Scene {
 }
 
 /// How often each call is chosen, in the order of `Scene::call`: on sound tables, and on damaged ones of right sizes.
-const CHANGING: [u64; 20] = [4, 4, 2, 2, 1, 1, 4, 8, 8, 12, 22, 6, 3, 7, 5, 5, 5, 5, 6, 6];
+const CHANGING: [u64; 20] = [4, 4, 2, 2, 1, 1, 6, 8, 8, 12, 22, 6, 3, 7, 5, 5, 5, 5, 6, 6];
 const DAMAGED: [u64; 20] = [4, 4, 1, 1, 1, 1, 6, 10, 10, 10, 16, 14, 8, 16, 10, 10, 10, 10, 12, 12];
 
 const SMALL: [usize; 9] = [1, 2, 3, 4, 5, 7, 8, 13, 16];
@@ -253,13 +253,13 @@ impl Scene {
         }
     }
 
-    /// Reserve: by the slots, or by what is left, and one more; of byte tables the same for the bytes.
+    /// Reserve: of a few keys, by the slots, or by what is left, and one more; of byte tables the same for the bytes.
     fn reserve(&self, random: &mut Random, on: usize) -> Call {
         let t = &self.tables[on];
         let slots = t.slots() as u64;
         let (free, left) = if t.sized() { (slots - t.live().len() as u64, (t.arena.len() as u64).saturating_sub(t.used())) } else { (slots, 0) };
-        let keys = random.pick(&[0, 1, 2, slots / 2, slots + 1, free, free, free + 1, u64::MAX]);
-        let bytes = random.pick(&[0, 1, left / 2, left, left, left + 1, left + 1, u64::MAX]);
+        let keys = random.pick(&[0, 1, 2, 3, 5, slots / 2, slots + 1, free, free, free + 1, u64::MAX]);
+        let bytes = random.pick(&[0, 1, 4, 8, 12, 20, left / 2, left, left, left + 1, left + 1, u64::MAX]);
         Call::Reserve(keys, if self.kind.bytes { bytes } else { 0 })
     }
 
@@ -271,11 +271,8 @@ impl Scene {
         let mut left = bytes;
         for turn in 1..=keys.min(8) {
             let length = if turn == keys { left.min(255) } else { random.below(left.min(5) + 1) };
-            let key = match self.kind.bytes {
-                true => Key::Bytes((0..length).map(|_| b'a' + random.below(9) as u8).collect()),
-                false => Key::Word(word(random)),
-            };
-            if !taken.contains(&key) {
+            let tries = (0..4).map(|_| Scene::random_key(random, self.kind, length)).collect::<Vec<Key>>();
+            if let Some(key) = tries.into_iter().find(|key| !taken.contains(key)) {
                 left -= key.room();
                 self.due.push((on, Call::Insert(key.clone(), word(random))));
                 taken.push(key);
@@ -283,9 +280,17 @@ impl Scene {
         }
     }
 
-    /// The next of these inserts, more often than not.
+    /// Any key; a byte key of this length.
+    fn random_key(random: &mut Random, kind: Kind, length: u64) -> Key {
+        match kind.bytes {
+            true => Key::Bytes((0..length).map(|_| b'a' + random.below(9) as u8).collect()),
+            false => Key::Word(word(random)),
+        }
+    }
+
+    /// The next of these inserts, in any order; now and then another call comes between them.
     pub fn due(&mut self, random: &mut Random) -> Option<(usize, Call)> {
-        if self.due.is_empty() || random.once_in(3) {
+        if self.due.is_empty() || random.once_in(6) {
             return None;
         }
         let at = random.below(self.due.len() as u64) as usize;

@@ -26,7 +26,7 @@ const TABLES: [(&str, &str); 11] = [
     ("step", "pair,nothing,walk_done,refused 1,refused 3,refused 4,refused 5,1 before 3,1 before 4,3 before 4"),
 ];
 const COPY: (&str, &str) = ("copy", "done,refused 1");
-const INSERTS: &str = "fresh,room told,replaced,refused 1,refused 2#,refused 5,refused 7,refused 8#,1 before 2#,2 before 5#,2 before 7#,2 before 8#,5 before 7#,5 before 8#,7 before 8#";
+const INSERTS: &str = "fresh,room told,room filled,replaced,refused 1,refused 2#,refused 5,refused 7,refused 8#,1 before 2#,2 before 5#,2 before 7#,2 before 8#,5 before 7#,5 before 8#,7 before 8#";
 const HANDLES: &str = "refused 1,refused 2#,refused 5,refused 6,1 before 2#,2 before 5#,2 before 6#,5 before 6";
 const MAPS: [(&str, &str); 7] = [
     ("entry", "occupied,vacant,refused 1,refused 2#,refused 5,refused 7,refused 8#,1 before 2#,2 before 5#,2 before 7#,2 before 8#,5 before 7#,5 before 8#,7 before 8#"),
@@ -69,9 +69,12 @@ impl Tally {
         }
     }
 
-    /// Counts an insert of which reserve promised that it goes in.
-    pub fn note_told(&mut self, kind: Kind, call: &Call) {
+    /// Counts an insert of which reserve promised that it goes in, and whether all that was asked for, two keys or more, is then in.
+    pub fn note_told(&mut self, kind: Kind, call: &Call, filled: bool) {
         self.count(kind, call, "room told".to_string());
+        if filled {
+            self.count(kind, call, "room filled".to_string());
+        }
     }
 
     /// Prints the counts; how many of the admitted cases came too seldom, where every case is asked for.
