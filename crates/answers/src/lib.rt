@@ -1,4 +1,6 @@
 // What the calls answer: refusals with the paper's numbers, the record of the paper's numbers, and the answer of the home slot.
+#![tactic(auto)]
+
 ghost use Rattle.std.specs.Prelude.{◌≡◌};
 ghost use Rattle.answers.specs.Refusals.{number_of};
 ghost use Rattle.answers.specs.Returned.{returned};

@@ -1,4 +1,6 @@
 // Whole lent arrays: set to 0, and copied, at each width that tables have.
+#![tactic(auto)]
+
 ghost use Rattle.std.specs.Prelude.{◌≡◌, length, replicate};
 ghost use Rattle.arrays.specs.Whole.{copied};
 

@@ -1,4 +1,6 @@
 // The changes of a byte table that maps and sets share: a key put into a slot, a slot freed with its gap closed, and all wiped.
+#![tactic(auto)]
+
 ghost use Rattle.std.specs.Prelude.{◌≡◌, ◌+◌, ◌≤◌, length};
 ghost use Rattle.byte_slots.specs.Memory.{part, pasted, closed, fall, fallen, filled, emptied, wiped, spans_now, spans_before, spans_after};
 ghost use Rattle.byte_arena.specs.Needs.{Fillable, Freeable};

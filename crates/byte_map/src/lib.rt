@@ -1,4 +1,6 @@
 // The calls of a byte map that store: byte-string keys in a lent arena, with u64 values. Each contract is one equation with a definition of the theory at this store.
+#![tactic(auto)]
+
 ghost use Rattle.std.specs.Prelude.{◌≡◌};
 ghost use Rattle.answers.specs.Numbers.{outcome_numbers, stored_numbers, removed_numbers};
 ghost use Rattle.kinds.specs.Told.{told};

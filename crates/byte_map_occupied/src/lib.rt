@@ -1,4 +1,6 @@
 // The byte map's occupied handles: small values that their own calls take and hand back; the key is given again each time.
+#![tactic(auto)]
+
 ghost use Rattle.std.specs.Prelude.{◌≡◌, length};
 ghost use Rattle.kinds.specs.Calls.{held_of, set_of, taken_of};
 ghost use Rattle.kinds.specs.Told.{told};

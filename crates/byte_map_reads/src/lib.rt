@@ -1,4 +1,6 @@
 // The calls of a byte map that only read: those that tell no value are the calls of its keys' set, where there are as many values as marks. Each contract is one equation with a definition of the theory at this store.
+#![tactic(auto)]
+
 ghost use Rattle.std.specs.Prelude.{◌≡◌};
 ghost use Rattle.answers.specs.Numbers.{counted_numbers, emptiness_numbers, reserved_numbers, got_numbers, contained_numbers};
 ghost use Rattle.kinds.specs.Calls.{capacity_of, len_of, is_empty_of, reserve_of, get_of, contains_of};

@@ -1,4 +1,6 @@
 // The union of byte maps: every test over both tables first, then the right's pairs go into the left.
+#![tactic(auto)]
+
 ghost use Rattle.std.specs.Prelude.{◌≡◌, true, ◌≤◌, ◌<◌, length};
 ghost use Rattle.digest.specs.Home.{key_limit};
 ghost use Rattle.answers.specs.Numbers.{outcome_numbers};

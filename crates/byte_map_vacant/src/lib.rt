@@ -1,4 +1,6 @@
 // The byte map's vacant handles: small values that their own call takes; the key is given again, and the slot's occupied handle is handed back.
+#![tactic(auto)]
+
 ghost use Rattle.std.specs.Prelude.{◌≡◌};
 ghost use Rattle.kinds.specs.Calls.{vacant_insert_of};
 ghost use Rattle.kinds.specs.Told.{told};

@@ -1,4 +1,6 @@
 // The calls of a byte set that store: byte keys in lent slot arrays and an arena. Each contract is one equation with a definition of the theory at this store.
+#![tactic(auto)]
+
 ghost use Rattle.std.specs.Prelude.{◌≡◌};
 ghost use Rattle.answers.specs.Numbers.{outcome_numbers, joined_numbers, dropped_numbers};
 ghost use Rattle.kinds.specs.Calls.{make_of, copy_of, dropped_of};

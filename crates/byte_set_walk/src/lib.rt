@@ -1,4 +1,6 @@
 // Walks of a byte set: a walk is a slot number, and each step hands out at most one key within its budget, as offset and length.
+#![tactic(auto)]
+
 ghost use Rattle.std.specs.Prelude.{◌≡◌};
 ghost use Rattle.kinds.specs.Told.{told};
 ghost use Rattle.kinds.specs.Moved.{moved_on};

@@ -1,4 +1,6 @@
 // Byte tables: sizes, the words of a slot, the probing loop, the scan, the survey, and the plans of insert and remove; then the sizes, the probing and the plans of a map, whose values are as many as its marks.
+#![tactic(auto)]
+
 ghost use Rattle.std.specs.Prelude.{◌≡◌, true, ◌+◌, ◌-◌, ◌≤◌, ◌<◌, eqb, leb, length, get_or, set, take, drop};
 ghost use Rattle.lists.specs.Bytes.{le};
 ghost use Rattle.digest.specs.Home.{key_limit};

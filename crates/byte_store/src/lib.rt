@@ -1,4 +1,6 @@
 // The insert rule with no test in byte tables: for one key, for a slot of another table, and for all its slots in their order. Maps and sets share it.
+#![tactic(auto)]
+
 ghost use Rattle.std.specs.Prelude.{◌≡◌, true, ◌<◌, length};
 ghost use Rattle.model.specs.Calls.{rule};
 ghost use Rattle.kinds.specs.Probing.{slot_by};

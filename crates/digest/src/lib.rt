@@ -1,4 +1,6 @@
 // The digest (FNV-1a, 64 bits) of lent bytes and of a u64 key, and the home slot of either.
+#![tactic(auto)]
+
 ghost use Rattle.std.specs.Prelude.{◌≡◌, ◌*◌, ◌%◌, ◌^◌};
 ghost use Rattle.digest.specs.Digest.{mix_of, more_of, digest_of, key_digest, word_of};
 ghost use Rattle.digest.specs.Home.{slot_of, home_of, home_of_word, slots_fit, homed_of, homed_of_word};

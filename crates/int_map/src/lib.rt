@@ -1,4 +1,6 @@
 // The integer map: u64 keys and values in lent slot arrays, and the calls that store. Each contract is one equation with a definition of the theory at this store.
+#![tactic(auto)]
+
 ghost use Rattle.std.specs.Prelude.{◌≡◌};
 ghost use Rattle.answers.specs.Numbers.{outcome_numbers, inserted_numbers, removed_numbers};
 ghost use Rattle.kinds.specs.Told.{told};

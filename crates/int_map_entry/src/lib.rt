@@ -1,4 +1,6 @@
 // The integer map's entries: an entry answer, and its own calls, which go on by the handle in it; the key is given again each time.
+#![tactic(auto)]
+
 ghost use Rattle.std.specs.Prelude.{◌≡◌, length};
 ghost use Rattle.kinds.specs.Handing.{Hands};
 ghost use Rattle.kinds.specs.Told.{told};

@@ -1,4 +1,6 @@
 // The integer map's occupied handles: small values that their own calls take and hand back; the key is given again each time.
+#![tactic(auto)]
+
 ghost use Rattle.std.specs.Prelude.{◌≡◌};
 ghost use Rattle.model.specs.Calls.{held_on};
 ghost use Rattle.kinds.specs.Marks.{cell};

@@ -1,4 +1,6 @@
 // The union of integer maps: every test over both tables first, then the right's pairs go into the left.
+#![tactic(auto)]
+
 ghost use Rattle.std.specs.Prelude.{◌≡◌, true, length};
 ghost use Rattle.answers.specs.Numbers.{outcome_numbers};
 ghost use Rattle.int_slots.specs.Maps.{maps, before, after};

@@ -1,4 +1,6 @@
 // The integer map's vacant handles: small values that their own call takes; the key is given again, and the slot's occupied handle is handed back.
+#![tactic(auto)]
+
 ghost use Rattle.std.specs.Prelude.{◌≡◌};
 ghost use Rattle.answers.specs.Numbers.{outcome_numbers};
 ghost use Rattle.kinds.specs.Told.{told};

@@ -1,4 +1,6 @@
 // Walks of an integer map: a walk is a slot number, and each step hands out at most one pair within its budget.
+#![tactic(auto)]
+
 ghost use Rattle.std.specs.Prelude.{◌≡◌};
 ghost use Rattle.kinds.specs.Told.{told};
 ghost use Rattle.kinds.specs.Moved.{moved_on};

@@ -1,4 +1,6 @@
 // The integer set: u64 keys in lent slot arrays, and the calls that store. Each contract is one equation with a definition of the theory at this store.
+#![tactic(auto)]
+
 ghost use Rattle.std.specs.Prelude.{◌≡◌};
 ghost use Rattle.answers.specs.Numbers.{outcome_numbers, added_numbers, dropped_numbers};
 ghost use Rattle.int_slots.specs.Sets.{sets, before, after};

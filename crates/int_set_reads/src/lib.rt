@@ -1,4 +1,6 @@
 // The calls of an integer set that only read. Each contract is one equation with a definition of the theory at this store.
+#![tactic(auto)]
+
 ghost use Rattle.std.specs.Prelude.{◌≡◌};
 ghost use Rattle.answers.specs.Numbers.{counted_numbers, emptiness_numbers, reserved_numbers, member_numbers, contained_numbers};
 ghost use Rattle.int_slots.specs.Sets.{sets, before};

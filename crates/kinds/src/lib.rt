@@ -1,4 +1,6 @@
 // What all kinds of tables share: the answers of probing, scan and look ahead, and the small steps of their loops and walks.
+#![tactic(auto)]
+
 ghost use Rattle.std.specs.Prelude.{◌≡◌, ◌≤◌, ◌<◌};
 ghost use Rattle.model.specs.Walk.{reach_of};
 ghost use Rattle.kinds.specs.Marks.{counted};

@@ -1,4 +1,6 @@
 // The lines of the program `slots`: a reader that takes one byte a step, and the decimal digits of a number.
+#![tactic(auto)]
+
 ghost use Rattle.std.specs.Prelude.{◌≡◌};
 ghost use Rattle.lines.specs.Grammar.{key_order, pair_order, count_order};
 ghost use Rattle.lines.specs.Reader.{grown_of, more_of, number_of, spaced_of, joined_of, step_of, order_of};

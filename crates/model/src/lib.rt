@@ -1,1 +1,2 @@
 // The theory of the tables: definitions in specs/, laws in proofs/, no code.
+#![tactic(auto)]

@@ -1,4 +1,6 @@
 // The C library: thin wrappers of the published calls. include/mosspillow.h declares them.
+#![tactic(auto)]
+
 ghost use Rattle.std.specs.Prelude.{◌≡◌};
 ghost use Rattle.answers.specs.Numbers.{homed_numbers};
 ghost use Rattle.digest.specs.Digest.{digest_of};

@@ -1,4 +1,6 @@
 // The program `slots`: reads a slot count and then commands from standard input, and answers each on a line.
+#![tactic(auto)]
+
 ghost use Rattle.std.specs.Prelude.{◌≤◌, length};
 
 use answers::{Got, Inserted, Refusal, Removed};

@@ -1,4 +1,6 @@
 // Prints the digests of the published test strings, one a line: 16 hexadecimal digits, a space, and the string in quotes.
+#![tactic(auto)]
+
 use digest::digest;
 use io::{print_hex, write_all};
 use libc::STDOUT_FILENO;
