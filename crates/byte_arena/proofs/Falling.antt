@@ -6,7 +6,7 @@ use native.Mathlib.Omega.{arith}
 use borrow.Author.Tests.{eq-eqb, ne_eqb, le-leb, lt-leb}
 use lib.ListN.{length, get_or, set, length-set}
 use lib.Seq.{ext_get_or, get_or-set_same, get_or-set_other}
-use Rattle.model.proofs.Cases.{by-eq}
+use Rattle.model.proofs.Cases.{by_eq}
 use Rattle.byte_slots.specs.Memory.{fall, fallen}
 use Rattle.byte_slots.proofs.Writes.{length_fallen, get_d_fallen}
 
@@ -38,7 +38,7 @@ module _ (e l : ℕ) (ms os : List ℕ) where
   pub falling_more : (i v : ℕ) (ps : List ℕ) → i < length os → v ≡ fall e l (get_or ms i 0) (get_or ps i 0) → Falling e l ms os i ps → Falling e l ms os (i + 1) (set ps i v)
   falling_more i v ps n q f = record {
     long = length-set ps i v ∙ f.long;
-    fell = λ j c. by-eq j i
+    fell = λ j c. by_eq j i
         (λ r x. rw r (get_or-set_same ps i v 0 (omega (arith, f.long)) ∙ q ∙ ap (fall e l (get_or ms i 0)) (f.waits i (omega arith))))
         (λ r x. get_or-set_other ps i j v 0 r ∙ f.fell j (omega arith));
     waits = λ j c. get_or-set_other ps i j v 0 (λ r. omega arith) ∙ f.waits j (omega arith);

@@ -21,9 +21,9 @@ use Rattle.kinds.specs.Probing.{along}
 use Rattle.kinds.proofs.Bridge.{free_below}
 use Rattle.byte_slots.specs.declared.Kept.TheVariants.{Fine}
 use Rattle.byte_slots.specs.declared.InsertPlan.{InsertPlan}
-use Rattle.byte_slots.specs.declared.InsertPlan.TheVariants as insertPlan
+use Rattle.byte_slots.specs.declared.InsertPlan.TheVariants as insert_plan
 use Rattle.byte_slots.specs.declared.RemovePlan.{RemovePlan}
-use Rattle.byte_slots.specs.declared.RemovePlan.TheVariants as removePlan
+use Rattle.byte_slots.specs.declared.RemovePlan.TheVariants as remove_plan
 use Rattle.byte_slots.specs.Keys.{byte_keys}
 use Rattle.byte_slots.specs.Memory.{Spans, ByteMemory, byte_store, bare, used_of, full_damage, fitting, asked_of, keeping, live_at}
 use Rattle.byte_slots.specs.Planning.{insert_plan_by, room_for, planning_kept, planning_insert, planning_map_insert, remove_plan_by, planning_remove, planning_map_remove}
@@ -35,7 +35,7 @@ use Rattle.byte_slots.proofs.Seeking.{long_only}
 use Rattle.byte_slots.proofs.Held.{live_says, unharmed_says}
 use Rattle.byte_arena.specs.Needs.{Aligned, Fillable, Freeable}
 
-insert_plan_free : {i e u : ℕ} (v : ℕ) (room : Bool) (x : Probed) → insert_plan_by v room x ≡ insertPlan.Free i e u → (x ≡ probed.Free i e) × (room ≡ true) × (u ≡ v)
+insert_plan_free : {i e u : ℕ} (v : ℕ) (room : Bool) (x : Probed) → insert_plan_by v room x ≡ insert_plan.Free i e u → (x ≡ probed.Free i e) × (room ≡ true) × (u ≡ v)
 unfolding insert_plan_by
 insert_plan_free v room (probed.Hit a b) q = clash cc
 insert_plan_free v true (probed.Free a b) q = (cc, refl, cc)
@@ -43,7 +43,7 @@ insert_plan_free v false (probed.Free a b) q = clash cc
 insert_plan_free v room (probed.Full a) q = clash cc
 insert_plan_free v room (probed.Refused a) q = clash cc
 
-remove_plan_hit : {i e u : ℕ} (v : ℕ) (x : Probed) → remove_plan_by v x ≡ removePlan.Hit i e u → (x ≡ probed.Hit i e) × (u ≡ v)
+remove_plan_hit : {i e u : ℕ} (v : ℕ) (x : Probed) → remove_plan_by v x ≡ remove_plan.Hit i e u → (x ≡ probed.Hit i e) × (u ≡ v)
 unfolding remove_plan_by
 remove_plan_hit v (probed.Hit a b) q = (cc, cc)
 remove_plan_hit v (probed.Free a b) q = clash cc
@@ -81,7 +81,7 @@ module _ (s : Spans) (k : List ℕ) where
   kept_short e = by_bool (key_fits (length k)) (λ f. leb-true (length k) key_limit f) (λ f. clash (cc (rw f at e)))
 
   -- The plan of insert gives a slot to fill.
-  pub plan_fillable : {r : InsertPlan} {i e u : ℕ} → r ≡ planning_insert s k → r ≡ insertPlan.Free i e u → Fillable s i u k
+  pub plan_fillable : {r : InsertPlan} {i e u : ℕ} → r ≡ planning_insert s k → r ≡ insert_plan.Free i e u → Fillable s i u k
   unfolding planning_insert planning_kept room_for
   plan_fillable {r} {i} {e} {u} p q = by_bool (fitting s)
       (λ f.
@@ -100,7 +100,7 @@ module _ (s : Spans) (k : List ℕ) where
       (λ f. clash (cc (rw f at (sym p ∙ q))))
 
   -- The plan of remove gives a slot to free.
-  pub plan_freeable : {r : RemovePlan} {i e u : ℕ} → r ≡ planning_remove s k → r ≡ removePlan.Hit i e u → Freeable s i u
+  pub plan_freeable : {r : RemovePlan} {i e u : ℕ} → r ≡ planning_remove s k → r ≡ remove_plan.Hit i e u → Freeable s i u
   unfolding planning_remove
   plan_freeable {r} {i} {e} {u} p q = by_bool (fitting s)
       (λ f. by_bool (eqb (asked_of k) 0)
@@ -116,16 +116,16 @@ module _ (s : Spans) (k : List ℕ) where
 
 -- The same of a map, whose slots then have a value too.
 module _ (m : ByteMemory values) (k : List ℕ) where
-  pub map_plan_insert_free : {r : InsertPlan} {i e u : ℕ} → r ≡ planning_map_insert m k → r ≡ insertPlan.Free i e u → Fillable m.spans i u k × (i < length m.words)
+  pub map_plan_insert_free : {r : InsertPlan} {i e u : ℕ} → r ≡ planning_map_insert m k → r ≡ insert_plan.Free i e u → Fillable m.spans i u k × (i < length m.words)
   unfolding planning_map_insert
   map_plan_insert_free p q =
-      let (x, l) = long_only m (planning_insert m.spans k) (insertPlan.Refused Sizes) p (λ z. clash (cc)) in
+      let (x, l) = long_only m (planning_insert m.spans k) (insert_plan.Refused Sizes) p (λ z. clash (cc)) in
       let f = plan_fillable m.spans k x q in
       (f, omega (arith, f.aligned.slot))
 
-  pub map_plan_remove_hit : {r : RemovePlan} {i e u : ℕ} → r ≡ planning_map_remove m k → r ≡ removePlan.Hit i e u → Freeable m.spans i u × (i < length m.words)
+  pub map_plan_remove_hit : {r : RemovePlan} {i e u : ℕ} → r ≡ planning_map_remove m k → r ≡ remove_plan.Hit i e u → Freeable m.spans i u × (i < length m.words)
   unfolding planning_map_remove
   map_plan_remove_hit p q =
-      let (x, l) = long_only m (planning_remove m.spans k) (removePlan.Refused Sizes) p (λ z. clash (cc)) in
+      let (x, l) = long_only m (planning_remove m.spans k) (remove_plan.Refused Sizes) p (λ z. clash (cc)) in
       let f = plan_freeable m.spans k x q in
       (f, omega (arith, f.aligned.slot))

@@ -18,9 +18,9 @@ use Rattle.kinds.specs.Calls.{sized_of, make_of, copy_of, remove_of}
 use Rattle.kinds.proofs.Copying.{copy_sized}
 use Rattle.kinds.proofs.Sizing.{sized_as, make_sized}
 use Rattle.byte_slots.specs.declared.InsertPlan.{InsertPlan}
-use Rattle.byte_slots.specs.declared.InsertPlan.TheVariants as insertPlan
+use Rattle.byte_slots.specs.declared.InsertPlan.TheVariants as insert_plan
 use Rattle.byte_slots.specs.declared.RemovePlan.{RemovePlan}
-use Rattle.byte_slots.specs.declared.RemovePlan.TheVariants as removePlan
+use Rattle.byte_slots.specs.declared.RemovePlan.TheVariants as remove_plan
 use Rattle.byte_slots.specs.Memory.{Spans, ByteMemory, filled, emptied, wiped}
 use Rattle.byte_slots.specs.Kinds.{maps, map_memory, insert_of}
 use Rattle.byte_slots.specs.Planning.{planning_map_insert, planning_map_remove}
@@ -43,10 +43,10 @@ module _ (m : ByteMemory values) where
       (rw (spans_copied m.spans n.spans (sized_fits m p q) (sized_fits n r s) e f x y z w, copied_whole m.words n.words (c ∙ e ∙ sym h) v))
 
   -- a fresh key, and a removed one
-  pub insert_fresh : (k : List ℕ) (v : ℕ) {r : InsertPlan} → r ≡ planning_map_insert m k → {i e u : ℕ} {s : Spans} → r ≡ insertPlan.Free i e u → s ≡ filled m.spans i k → told (stored_numbers (stored.Fresh i u e)) (record { spans = s; words = set m.words i v }) ≡ insert_of m k v
+  pub insert_fresh : (k : List ℕ) (v : ℕ) {r : InsertPlan} → r ≡ planning_map_insert m k → {i e u : ℕ} {s : Spans} → r ≡ insert_plan.Free i e u → s ≡ filled m.spans i k → told (stored_numbers (stored.Fresh i u e)) (record { spans = s; words = set m.words i v }) ≡ insert_of m k v
   unfolding stored_numbers stored_said stored_by
   insert_fresh k v p q x = rw (x, (map_plan_insert_free m k p q).0.used) (insert_says m k p q v)
 
-  pub remove_hit : (k : List ℕ) {r : RemovePlan} → r ≡ planning_map_remove m k → {i e u : ℕ} {s : Spans} → r ≡ removePlan.Hit i e u → s ≡ emptied m.spans i → told (removed_numbers (removed.Removed (get_or m.words i 0) i e)) (record { spans = s; words = set m.words i 0 }) ≡ remove_of maps m k
+  pub remove_hit : (k : List ℕ) {r : RemovePlan} → r ≡ planning_map_remove m k → {i e u : ℕ} {s : Spans} → r ≡ remove_plan.Hit i e u → s ≡ emptied m.spans i → told (removed_numbers (removed.Removed (get_or m.words i 0) i e)) (record { spans = s; words = set m.words i 0 }) ≡ remove_of maps m k
   unfolding removed_numbers removed_said removed_by
   remove_hit k p q x = rw x (remove_says m k p q)

@@ -8,7 +8,7 @@ use borrow.Author.Tests.{eqb-true}
 use lib.Dec.{eqb}
 use lib.ListN.{length, get_or, set}
 use Rattle.model.specs.Calls.{Or, no, ok, need, pass, occupied_remove, after_drop, acted}
-use Rattle.model.proofs.Cases.{by_bool, by-lt, clash}
+use Rattle.model.proofs.Cases.{by_bool, by_lt, clash}
 use Rattle.answers.specs.declared.Refusal.{Refusal}
 use Rattle.answers.specs.declared.Refusal.TheVariants.{Sizes, LongKey}
 use Rattle.answers.specs.declared.Refusal.TheVariants as refusal
@@ -39,7 +39,7 @@ use Rattle.byte_slots.proofs.MapSizes.{sized_fits, same_long}
 use Rattle.byte_map_occupied.specs.declared.Held.{Held}
 use Rattle.byte_map_occupied.specs.declared.Held.TheVariants as held
 use Rattle.byte_map_occupied.specs.declared.RemovalPlan.{RemovalPlan}
-use Rattle.byte_map_occupied.specs.declared.RemovalPlan.TheVariants as removalPlan
+use Rattle.byte_map_occupied.specs.declared.RemovalPlan.TheVariants as removal_plan
 use Rattle.byte_map_occupied.specs.declared.Taken.TheVariants as taken
 use Rattle.byte_map_occupied.specs.Numbers.{taken_numbers}
 use Rattle.byte_map_occupied.specs.Planning.{held_by, value_in, removal_plan_by, planning_removal}
@@ -47,8 +47,8 @@ use Rattle.byte_map_occupied.proofs.Values.{value_of, grip_value}
 
 -- What a removal's plan says in the theory's words.
 abbrev removed_of : RemovalPlan → Or ℕ
-removed_of (removalPlan.Out v u) = ok v
-removed_of (removalPlan.Refused r) = no (number_of r)
+removed_of (removal_plan.Out v u) = ok v
+removed_of (removal_plan.Refused r) = no (number_of r)
 
 removal_value : (u : ℕ) (h : Held) → value_of h ≡ removed_of (removal_plan_by u h)
 unfolding removal_plan_by
@@ -63,7 +63,7 @@ look_live k a (suc zero) e = refl
 look_live k a (suc (suc zero)) e = clash cc
 look_live k a (suc (suc (suc m))) e = clash cc
 
-held_same : (i w u v x : ℕ) (s : Sight) → removal_plan_by u (held_by i w s) ≡ removalPlan.Out v x → (s ≡ Same) × (u ≡ x)
+held_same : (i w u v x : ℕ) (s : Sight) → removal_plan_by u (held_by i w s) ≡ removal_plan.Out v x → (s ≡ Same) × (u ≡ x)
 unfolding held_by removal_plan_by
 held_same i w u v x Never e = clash cc
 held_same i w u v x Freed e = clash cc
@@ -74,17 +74,17 @@ held_same i w u v x Other e = clash cc
 module _ (m : ByteMemory values) (i : ℕ) (k : List ℕ) where
   -- the plan, as the code makes it
   module _ {b : Bool} (p : b ≡ sized_of maps m) where
-    pub removal_unfit : b ≡ false → removalPlan.Refused Sizes ≡ planning_removal m i k
+    pub removal_unfit : b ≡ false → removal_plan.Refused Sizes ≡ planning_removal m i k
     unfolding planning_removal
     removal_unfit q = rw (sym p ∙ q)
 
     module _ (q : b ≡ true) {t : Bool} (w : t ≡ eqb (asked_of k) 0) where
-      pub removal_long : t ≡ false → removalPlan.Refused LongKey ≡ planning_removal m i k
+      pub removal_long : t ≡ false → removal_plan.Refused LongKey ≡ planning_removal m i k
       unfolding planning_removal
       removal_long e = rw (sym p ∙ q, sym w ∙ e)
 
       module _ (e : t ≡ true) {r : Surveyed} (v : r ≡ surveying m.spans) where
-        pub removal_bad : r ≡ surveyed.Damaged → removalPlan.Refused refusal.Damaged ≡ planning_removal m i k
+        pub removal_bad : r ≡ surveyed.Damaged → removal_plan.Refused refusal.Damaged ≡ planning_removal m i k
         unfolding planning_removal
         removal_bad x = rw (sym p ∙ q, sym w ∙ e, surveyed_bad m.spans v x)
 
@@ -104,16 +104,16 @@ module _ (m : ByteMemory values) (i : ℕ) (k : List ℕ) where
       (λ f. rw f)
 
   -- what a plan that takes a value out says of its slot
-  out_live : {v u x : ℕ} → removal_plan_by u (value_in m i k) ≡ removalPlan.Out v x → (i < length m.spans.marks) × live_at m.spans i × (u ≡ x)
+  out_live : {v u x : ℕ} → removal_plan_by u (value_in m i k) ≡ removal_plan.Out v x → (i < length m.spans.marks) × live_at m.spans i × (u ≡ x)
   unfolding value_in removal_plan_by sight_at
-  out_live {v} {u} {x} q = by-lt i (length m.spans.marks)
+  out_live {v} {u} {x} q = by_lt i (length m.spans.marks)
       (λ l e.
       let (a, b) = held_same i (get_or m.words i 0) u v x (sight_at m.spans k i) (rw e at q) in
       let one : mark_of m.spans i ≡ 1 = look_live k (key_at m.spans i) (mark_of m.spans i) a in
       (l, sym (mark_raw m.spans i (omega arith)) ∙ one, b))
       (λ l e. clash (cc (rw e at q)))
 
-  freeable : {v u : ℕ} → planning_removal m i k ≡ removalPlan.Out v u → Freeable m.spans i u × (i < length m.words)
+  freeable : {v u : ℕ} → planning_removal m i k ≡ removal_plan.Out v u → Freeable m.spans i u × (i < length m.words)
   unfolding planning_removal
   freeable q = by_bool (sized_of maps m)
       (λ f. by_bool (eqb (asked_of k) 0)
@@ -137,19 +137,19 @@ module _ (m : ByteMemory values) (i : ℕ) (k : List ℕ) where
 
   -- where the plan answered r
   module _ {r : RemovalPlan} (p : r ≡ planning_removal m i k) where
-    pub removal_freeable : {v u : ℕ} → r ≡ removalPlan.Out v u → Freeable m.spans i u
+    pub removal_freeable : {v u : ℕ} → r ≡ removal_plan.Out v u → Freeable m.spans i u
     removal_freeable q = (freeable (sym p ∙ q)).0
 
-    pub removal_inside : {v u : ℕ} → r ≡ removalPlan.Out v u → i < length m.words
+    pub removal_inside : {v u : ℕ} → r ≡ removal_plan.Out v u → i < length m.words
     removal_inside q = (freeable (sym p ∙ q)).1
 
     planned : {x : RemovalPlan} → r ≡ x → occupied_remove maps m i k ≡ removed_of x
     planned q = rw (← q, p) remove_planned
 
-    pub remove_done : {old u : ℕ} {t : Spans} → r ≡ removalPlan.Out old u → t ≡ emptied m.spans i → told (taken_numbers (taken.Removed old)) (record { spans = t; words = set m.words i 0 }) ≡ taken_of maps m i k
+    pub remove_done : {old u : ℕ} {t : Spans} → r ≡ removal_plan.Out old u → t ≡ emptied m.spans i → told (taken_numbers (taken.Removed old)) (record { spans = t; words = set m.words i 0 }) ≡ taken_of maps m i k
     unfolding taken_of after_drop acted taken_numbers taken_said
     remove_done q e = rw (planned q, ← e)
 
-    pub remove_refused : {x : Refusal} → r ≡ removalPlan.Refused x → told (taken_numbers (taken.Refused x)) m ≡ taken_of maps m i k
+    pub remove_refused : {x : Refusal} → r ≡ removal_plan.Refused x → told (taken_numbers (taken.Refused x)) m ≡ taken_of maps m i k
     unfolding taken_of after_drop acted taken_numbers taken_said
     remove_refused q = rw (planned q)

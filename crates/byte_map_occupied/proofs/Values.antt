@@ -8,7 +8,7 @@ use borrow.Author.Tests.{lt-ltb, le-ltb, eqb-true}
 use lib.Dec.{eqb}
 use lib.ListN.{length, get_or, set}
 use Rattle.model.specs.Calls.{Or, no, ok, need, pass, held_on, held_at, occupied_get, after_set, acted}
-use Rattle.model.proofs.Cases.{by_bool, by-lt, clash}
+use Rattle.model.proofs.Cases.{by_bool, by_lt, clash}
 use Rattle.answers.specs.declared.Refusal.{Refusal}
 use Rattle.answers.specs.declared.Refusal.TheVariants.{Sizes, LongKey, BadHandle}
 use Rattle.answers.specs.Refusals.{number_of}
@@ -70,7 +70,7 @@ module _ (m : ByteMemory values) (i : ℕ) (k : List ℕ) where
   -- and in the theory
   pub grip_value : held_at maps m i k ≡ value_of (value_in m i k)
   unfolding held_at value_in need sight_at
-  grip_value = by-lt i (length m.spans.marks)
+  grip_value = by_lt i (length m.spans.marks)
       (λ l e. rw (e, slot_cell m.spans (λ j. get_or m.words j 0) i) (value_cell i (key_at m.spans i) k (get_or m.words i 0) (mark_of m.spans i)))
       (λ l e. rw e)
 
@@ -100,7 +100,7 @@ module _ (m : ByteMemory values) (i : ℕ) (k : List ℕ) where
   -- a good handle's slot is one of the table's, and is the handle's own
   good_in : {v : ℕ} {h : Occupied} → value_in m i k ≡ held.Value v h → (i < length m.spans.marks) × (h.slot ≡ i)
   unfolding value_in
-  good_in {v} q = by-lt i (length m.spans.marks)
+  good_in {v} q = by_lt i (length m.spans.marks)
       (λ l e. (l, held_slot i (get_or m.words i 0) v (sight_at m.spans k i) (rw e at q)))
       (λ l e. clash (cc (rw e at q)))
 

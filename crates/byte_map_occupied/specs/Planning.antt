@@ -11,7 +11,7 @@ use Rattle.kinds.specs.Calls.{sized_of}
 use Rattle.byte_map_occupied.specs.declared.Held.{Held}
 use Rattle.byte_map_occupied.specs.declared.Held.TheVariants as held
 use Rattle.byte_map_occupied.specs.declared.RemovalPlan.{RemovalPlan}
-use Rattle.byte_map_occupied.specs.declared.RemovalPlan.TheVariants as removalPlan
+use Rattle.byte_map_occupied.specs.declared.RemovalPlan.TheVariants as removal_plan
 
 -- What an occupied handle of the slot i, with the value v in it, holds by the look at the slot.
 unfoldable pub held_by : ℕ → ℕ → Sight → Held
@@ -34,14 +34,14 @@ value_for m i k =
 
 -- What a removal makes of a handle's test, where u bytes are used.
 unfoldable pub removal_plan_by : ℕ → Held → RemovalPlan
-removal_plan_by u (held.Value v h) = removalPlan.Out v u
-removal_plan_by u (held.Refused r) = removalPlan.Refused r
+removal_plan_by u (held.Value v h) = removal_plan.Out v u
+removal_plan_by u (held.Refused r) = removal_plan.Refused r
 
 -- The plan of an occupied handle's removal: refusals 1, 2 and 5, then what the slot says.
 unfoldable pub planning_removal : ByteMemory values → ℕ → List ℕ → RemovalPlan
 planning_removal m i k =
     cond (sized_of maps m)
     (cond (eqb (asked_of k) 0)
-    (cond (full_damage m.spans) (removalPlan.Refused refusal.Damaged) (removal_plan_by (used_of m.spans) (value_in m i k)))
-    (removalPlan.Refused refusal.LongKey))
-    (removalPlan.Refused refusal.Sizes)
+    (cond (full_damage m.spans) (removal_plan.Refused refusal.Damaged) (removal_plan_by (used_of m.spans) (value_in m i k)))
+    (removal_plan.Refused refusal.LongKey))
+    (removal_plan.Refused refusal.Sizes)

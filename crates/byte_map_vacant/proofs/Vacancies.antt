@@ -11,7 +11,7 @@ use lib.Dec.{eqb, ltb}
 use lib.ListN.{length, get_or, set}
 use Rattle.model.specs.Path.{Find, hit, miss, damage, at, find}
 use Rattle.model.specs.Calls.{Or, no, ok, need, give, acted, good_for, vacancy, vacant_insert, after_fill}
-use Rattle.model.proofs.Cases.{by_bool, by-eq, clash}
+use Rattle.model.proofs.Cases.{by_bool, by_eq, clash}
 use Rattle.digest.specs.Home.{home_of, key_fits}
 use Rattle.answers.specs.declared.Refusal.{Refusal}
 use Rattle.answers.specs.declared.Refusal.TheVariants.{Sizes, LongKey, NoBudget, WalkBeyond, Damaged, BadHandle, NoSlot, NoBytes}
@@ -26,7 +26,7 @@ use Rattle.kinds.specs.Told.{told}
 use Rattle.kinds.proofs.Bridge.{spot_in}
 use Rattle.byte_slots.specs.declared.Kept.TheVariants as kept
 use Rattle.byte_slots.specs.declared.InsertPlan.{InsertPlan}
-use Rattle.byte_slots.specs.declared.InsertPlan.TheVariants as insertPlan
+use Rattle.byte_slots.specs.declared.InsertPlan.TheVariants as insert_plan
 use Rattle.byte_slots.specs.Keys.{byte_keys}
 use Rattle.byte_slots.specs.Kinds.{maps}
 use Rattle.byte_slots.specs.Marks.{mark_of}
@@ -49,19 +49,19 @@ worth_of (Good u) = ok tt
 worth_of (Refused r) = no (number_of r)
 
 -- the plan, as the code makes it
-pub vacancy_here : (i : ℕ) {p : InsertPlan} {x e u : ℕ} → p ≡ insertPlan.Free x e u → i ≡ x → Good u ≡ vacancy_by i p
+pub vacancy_here : (i : ℕ) {p : InsertPlan} {x e u : ℕ} → p ≡ insert_plan.Free x e u → i ≡ x → Good u ≡ vacancy_by i p
 unfolding vacancy_by
 vacancy_here i {p} {x} q l = rw (q, eq-eqb i x l)
 
-pub vacancy_elsewhere : (i : ℕ) {p : InsertPlan} {x e u : ℕ} → p ≡ insertPlan.Free x e u → (i ≡ x → ⊥) → Refused BadHandle ≡ vacancy_by i p
+pub vacancy_elsewhere : (i : ℕ) {p : InsertPlan} {x e u : ℕ} → p ≡ insert_plan.Free x e u → (i ≡ x → ⊥) → Refused BadHandle ≡ vacancy_by i p
 unfolding vacancy_by
 vacancy_elsewhere i {p} {x} q l = rw (q, ne_eqb i x l)
 
-pub vacancy_hit : (i : ℕ) {p : InsertPlan} {x e : ℕ} → p ≡ insertPlan.Hit x e → Refused BadHandle ≡ vacancy_by i p
+pub vacancy_hit : (i : ℕ) {p : InsertPlan} {x e : ℕ} → p ≡ insert_plan.Hit x e → Refused BadHandle ≡ vacancy_by i p
 unfolding vacancy_by
 vacancy_hit i q = rw q
 
-pub vacancy_refused : (i : ℕ) {p : InsertPlan} {r x : Refusal} → p ≡ insertPlan.Refused r → x ≡ handle_refusal r → Refused x ≡ vacancy_by i p
+pub vacancy_refused : (i : ℕ) {p : InsertPlan} {r x : Refusal} → p ≡ insert_plan.Refused r → x ≡ handle_refusal r → Refused x ≡ vacancy_by i p
 unfolding vacancy_by
 vacancy_refused i q e = rw (q, e)
 
@@ -94,13 +94,13 @@ kept_stays k r e = by_bool (key_fits (length k))
     (λ f. let z : LongKey ≡ r = cc (rw f at e) in rw (← z))
 
 -- a good handle's slot is the one that the plan names
-vacancy_free : (i : ℕ) {u : ℕ} (p : InsertPlan) → vacancy_by i p ≡ Good u → (e : ℕ) × (p ≡ insertPlan.Free i e u)
+vacancy_free : (i : ℕ) {u : ℕ} (p : InsertPlan) → vacancy_by i p ≡ Good u → (e : ℕ) × (p ≡ insert_plan.Free i e u)
 unfolding vacancy_by
-vacancy_free i (insertPlan.Hit x e) q = clash cc
-vacancy_free i {u} (insertPlan.Free x e v) q = by-eq i x
+vacancy_free i (insert_plan.Hit x e) q = clash cc
+vacancy_free i {u} (insert_plan.Free x e v) q = by_eq i x
     (λ l t. let z : v ≡ u = cc (rw t at q) in (e, rw (z, l)))
     (λ l t. clash (cc (rw t at q)))
-vacancy_free i (insertPlan.Refused r) q = clash cc
+vacancy_free i (insert_plan.Refused r) q = clash cc
 
 -- a vacant handle by the path
 good_along : (i S h u : ℕ) (room : Bool) (read : ℕ → ℕ) {W : Type 0} (x : Find W) → good_for maps i (spot_in room read (along S h x)) ≡ worth_of (vacancy_by i (insert_plan_by u room (along S h x)))
@@ -134,7 +134,7 @@ module _ (m : ByteMemory values) (i : ℕ) (k : List ℕ) where
   -- a vacant handle by insert's plan
   vacancy_planned : vacancy maps m i k ≡ worth_of (vacancy_by i (planning_map_insert m k))
   unfolding planning_map_insert vacancy_by handle_refusal
-  vacancy_planned = by_long m (planning_insert m.spans k) (insertPlan.Refused Sizes) (λ p. worth_of (vacancy_by i p)) (vacancy maps m i k) vacancy_planning vacancy_short
+  vacancy_planned = by_long m (planning_insert m.spans k) (insert_plan.Refused Sizes) (λ p. worth_of (vacancy_by i p)) (vacancy maps m i k) vacancy_planning vacancy_short
 
   -- where insert's plan is p, and the handle's r
   module _ {p : InsertPlan} {r : Vacancy} (w : p ≡ planning_map_insert m k) (y : r ≡ vacancy_by i p) where

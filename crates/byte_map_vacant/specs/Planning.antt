@@ -3,7 +3,7 @@ use Rattle.std.specs.Prelude.{ℕ, cond, eqb}
 use Rattle.answers.specs.declared.Refusal.{Refusal}
 use Rattle.answers.specs.declared.Refusal.TheVariants.{Sizes, LongKey, NoBudget, WalkBeyond, Damaged, BadHandle, NoSlot, NoBytes}
 use Rattle.byte_slots.specs.declared.InsertPlan.{InsertPlan}
-use Rattle.byte_slots.specs.declared.InsertPlan.TheVariants as insertPlan
+use Rattle.byte_slots.specs.declared.InsertPlan.TheVariants as insert_plan
 use Rattle.byte_map_vacant.specs.declared.Vacancy.{Vacancy}
 use Rattle.byte_map_vacant.specs.declared.Vacancy.TheVariants.{Good, Refused}
 
@@ -20,6 +20,6 @@ handle_refusal NoBytes = BadHandle
 
 -- What a vacant handle of the slot i makes of insert's plan: refusals 1, 2 and 5 stay, and anything that insert would not do at that very slot is refused 6.
 unfoldable pub vacancy_by : ℕ → InsertPlan → Vacancy
-vacancy_by i (insertPlan.Hit x e) = Refused BadHandle
-vacancy_by i (insertPlan.Free x e u) = cond (eqb i x) (Good u) (Refused BadHandle)
-vacancy_by i (insertPlan.Refused r) = Refused (handle_refusal r)
+vacancy_by i (insert_plan.Hit x e) = Refused BadHandle
+vacancy_by i (insert_plan.Free x e u) = cond (eqb i x) (Good u) (Refused BadHandle)
+vacancy_by i (insert_plan.Refused r) = Refused (handle_refusal r)

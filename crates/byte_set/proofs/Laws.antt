@@ -16,9 +16,9 @@ use Rattle.kinds.specs.Told.{told}
 use Rattle.kinds.proofs.Copying.{copy_sized}
 use Rattle.kinds.proofs.Sizing.{make_sized}
 use Rattle.byte_slots.specs.declared.InsertPlan.{InsertPlan}
-use Rattle.byte_slots.specs.declared.InsertPlan.TheVariants as insertPlan
+use Rattle.byte_slots.specs.declared.InsertPlan.TheVariants as insert_plan
 use Rattle.byte_slots.specs.declared.RemovePlan.{RemovePlan}
-use Rattle.byte_slots.specs.declared.RemovePlan.TheVariants as removePlan
+use Rattle.byte_slots.specs.declared.RemovePlan.TheVariants as remove_plan
 use Rattle.byte_slots.specs.Memory.{Spans, spans_of, fitting, filled, emptied, wiped}
 use Rattle.byte_slots.specs.Kinds.{sets, set_insert_of, as_set}
 use Rattle.byte_slots.specs.Planning.{planning_insert, planning_remove}
@@ -37,10 +37,10 @@ module _ (s : Spans) where
     copy_done t r h e a x y z w = copy_sized sets (as_set s) (as_set t) (fit s p q) (fit t r h) e a (rw (spans_copied s t (sym p ∙ q) (sym r ∙ h) e a x y z w))
 
   -- a fresh key, and a removed one
-  pub insert_fresh : (k : List ℕ) {r : InsertPlan} → r ≡ planning_insert s k → {i e u : ℕ} {t : Spans} → r ≡ insertPlan.Free i e u → t ≡ filled s i k → told (joined_numbers (joined.Fresh i u e)) (as_set t) ≡ set_insert_of (as_set s) k
+  pub insert_fresh : (k : List ℕ) {r : InsertPlan} → r ≡ planning_insert s k → {i e u : ℕ} {t : Spans} → r ≡ insert_plan.Free i e u → t ≡ filled s i k → told (joined_numbers (joined.Fresh i u e)) (as_set t) ≡ set_insert_of (as_set s) k
   unfolding joined_numbers joined_said stored_by
   insert_fresh k p q x = rw (x, (plan_fillable s k p q).used) (set_insert_says s k p q)
 
-  pub remove_hit : (k : List ℕ) {r : RemovePlan} → r ≡ planning_remove s k → {i e u : ℕ} {t : Spans} → r ≡ removePlan.Hit i e u → t ≡ emptied s i → told (dropped_numbers (dropped.Removed i e)) (as_set t) ≡ dropped_of sets (as_set s) k
+  pub remove_hit : (k : List ℕ) {r : RemovePlan} → r ≡ planning_remove s k → {i e u : ℕ} {t : Spans} → r ≡ remove_plan.Hit i e u → t ≡ emptied s i → told (dropped_numbers (dropped.Removed i e)) (as_set t) ≡ dropped_of sets (as_set s) k
   unfolding dropped_numbers dropped_said removed_by
   remove_hit k p q x = rw x (set_remove_says s k p q)

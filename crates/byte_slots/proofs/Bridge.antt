@@ -29,9 +29,9 @@ use Rattle.kinds.proofs.Uniting.{rule_of, lacking_probed, rule_probed}
 use Rattle.byte_slots.specs.declared.Kept.{Kept}
 use Rattle.byte_slots.specs.declared.Kept.TheVariants as kept
 use Rattle.byte_slots.specs.declared.InsertPlan.{InsertPlan}
-use Rattle.byte_slots.specs.declared.InsertPlan.TheVariants as insertPlan
+use Rattle.byte_slots.specs.declared.InsertPlan.TheVariants as insert_plan
 use Rattle.byte_slots.specs.declared.RemovePlan.{RemovePlan}
-use Rattle.byte_slots.specs.declared.RemovePlan.TheVariants as removePlan
+use Rattle.byte_slots.specs.declared.RemovePlan.TheVariants as remove_plan
 use Rattle.byte_slots.specs.Memory.{ByteMemory, byte_store, key_at, used_of, full_damage, fitting, asked_of, keeping, kept_number, kept_of}
 use Rattle.byte_slots.specs.Marks.{mark_of}
 use Rattle.byte_slots.specs.Planning.{insert_plan_by, room_for, planning_kept, kept_plan, planning_insert, remove_plan_by, planning_remove}
@@ -43,15 +43,15 @@ use Rattle.byte_slots.proofs.Sizes.{Sized, fitting_says}
 
 -- What entry and insert answer by their plan; `read` gives the value at a slot.
 abbrev pub spot_of : {W : Type 0} → (ℕ → W) → InsertPlan → Or (Spot W)
-spot_of read (insertPlan.Hit i e) = ok (occupied i (read i) e)
-spot_of read (insertPlan.Free i e u) = ok (vacant i e)
-spot_of read (insertPlan.Refused x) = no (number_of x)
+spot_of read (insert_plan.Hit i e) = ok (occupied i (read i) e)
+spot_of read (insert_plan.Free i e u) = ok (vacant i e)
+spot_of read (insert_plan.Refused x) = no (number_of x)
 
 -- What remove answers by its plan.
 abbrev pub lost_of : {W : Type 0} → (ℕ → W) → RemovePlan → Or (Seen W)
-lost_of read (removePlan.Hit i e u) = ok (found (read i) i e)
-lost_of read (removePlan.Absent e) = ok (absent e)
-lost_of read (removePlan.Refused x) = no (number_of x)
+lost_of read (remove_plan.Hit i e u) = ok (found (read i) i e)
+lost_of read (remove_plan.Absent e) = ok (absent e)
+lost_of read (remove_plan.Refused x) = no (number_of x)
 
 -- a key that may not be asked for is refused 2
 pub asked_no : (k : List ℕ) → eqb (asked_of k) 0 ≡ false → asked_of k ≡ 2
@@ -66,7 +66,7 @@ unfolding pass
 pass_no zero a l = let z : ⊥ = omega arith in absurd z
 pass_no (suc n) a l = refl
 
-pub pass_kept : {A : Type 0} (f : InsertPlan → Or A) (x : Kept) (a : Or A) (p : InsertPlan) → ((r : Refusal) → x ≡ kept.Refused r → f (insertPlan.Refused r) ≡ no (number_of r)) → a ≡ f p → pass (kept_number x) a ≡ f (kept_plan x p)
+pub pass_kept : {A : Type 0} (f : InsertPlan → Or A) (x : Kept) (a : Or A) (p : InsertPlan) → ((r : Refusal) → x ≡ kept.Refused r → f (insert_plan.Refused r) ≡ no (number_of r)) → a ≡ f p → pass (kept_number x) a ≡ f (kept_plan x p)
 unfolding pass kept_plan
 pass_kept f kept.Fine a p h e = e
 pass_kept f (kept.Refused r) a p h e = pass_no (number_of r) a (number_of_range r).0 ∙ sym (h r refl)

@@ -8,14 +8,14 @@ use borrow.Author.Tests.{ltb-false, leb-true, leb-false, le-ltb, eq-eqb}
 use lib.Dec.{eqb, ltb, leb}
 use lib.ListN.{length, get_or, get_or-eq_default}
 use Rattle.model.specs.Slots.{never, freed, damaged, live, frees, is_damaged, weigh, total, any_damaged}
-use Rattle.model.proofs.Cases.{by_bool, by-lt, by-eq, clash}
+use Rattle.model.proofs.Cases.{by_bool, by_lt, by_eq, clash}
 use Rattle.lists.proofs.Parts.{length_part}
 use Rattle.byte_slots.specs.Memory.{Spans, part, end_at, key_at, spanned, slots_of, bare, used_of, beyond, full_damage, live_at, offset_of, length_of}
 use Rattle.byte_slots.proofs.Tiled.{Counted, counts, idle}
 
 -- A live slot is one of the slots.
 pub live_below : (marks : List ℕ) (i : ℕ) → get_or marks i 0 ≡ 1 → i < length marks
-live_below marks i e = by-lt i (length marks) (λ l x. l) (λ l x. absurd (omega (arith, get_or-eq_default marks 0 l)))
+live_below marks i e = by_lt i (length marks) (λ l x. l) (λ l x. absurd (omega (arith, get_or-eq_default marks 0 l)))
 
 module _ {W : Type 0} where
   spanned_by : {A : Type 0} (b : Bool) (m : ℕ) (k : List ℕ) (v : W) → (m ≡ 0 → spanned b m k v ≡ never → A) → (m ≡ 1 → b ≡ true → spanned b m k v ≡ live k v → A) → (m ≡ 1 → b ≡ false → spanned b m k v ≡ damaged → A) → (m ≡ 2 → spanned b m k v ≡ freed → A) → (2 < m → spanned b m k v ≡ damaged → A) → A
@@ -108,7 +108,7 @@ module _ (s : Spans) where
   pub beyond_not : (u n : ℕ) → ((i : ℕ) → i < n → live_at s i → end_at s i ≤ u) → beyond s u n ≡ false
   unfolding beyond
   beyond_not u zero h = refl
-  beyond_not u (suc n) h = by-eq (get_or s.marks n 0) 1
+  beyond_not u (suc n) h = by_eq (get_or s.marks n 0) 1
       (λ q e. rw (e, le-ltb u (end_at s n) (h n (omega arith) q)) (beyond_not u n (λ i l. h i (omega arith))))
       (λ q e. rw e (beyond_not u n (λ i l. h i (omega arith))))
 
@@ -117,7 +117,7 @@ module _ (s : Spans) where
   beyond_none u zero e i l a = absurd (omega arith)
   beyond_none u (suc n) e i l a = by_bool (eqb (get_or s.marks n 0) 1 && ltb u (end_at s n))
       (λ t. clash (let z : true ≡ false = rw t at e in cc))
-      (λ t. by-lt i n (λ b x. beyond_none u n (rw t at e) i b a)
+      (λ t. by_lt i n (λ b x. beyond_none u n (rw t at e) i b a)
       (λ b x. let q : i ≡ n = omega arith in subst (λ j. end_at s j ≤ u) (sym q) (ltb-false u (end_at s n) (rw (eq-eqb (get_or s.marks n 0) 1 (rw q at a)) at t))))
 
   -- What a table that is not harmful says: no slot is damaged, `used` is at most the arena, and no live span ends beyond `used`.
@@ -127,7 +127,7 @@ module _ (s : Spans) where
 
   pub unharmed_says : full_damage s ≡ false → (used_of s ≤ length s.arena) × ((i : ℕ) → live_at s i → end_at s i ≤ used_of s)
   unfolding full_damage
-  unharmed_says e = by-lt (length s.arena) (used_of s)
+  unharmed_says e = by_lt (length s.arena) (used_of s)
       (λ l x. clash (let z : true ≡ false = rw (unharmed_whole e, x) at e in cc))
       (λ l x. (l, λ i a. beyond_none (used_of s) (length s.marks) (rw (unharmed_whole e, x) at e) i (live_below s.marks i a) a))
 

@@ -7,7 +7,7 @@ use native.Mathlib.Numerals.{add-one}
 use native.Mathlib.Omega.{arith}
 use lib.ListN.{length, get_or}
 use Rattle.model.specs.Slots.{is_damaged, total, count, any_damaged}
-use Rattle.model.proofs.Cases.{by_bool, by-lt, clash}
+use Rattle.model.proofs.Cases.{by_bool, by_lt, clash}
 use Rattle.kinds.specs.Marks.{counted}
 use Rattle.kinds.proofs.Scanning.{cell_bad, counted_low, counted_weighs}
 use Rattle.byte_slots.specs.Memory.{Spans, key_at, bare}
@@ -18,7 +18,7 @@ use Rattle.byte_slots.proofs.Marks.{mark_raw, slot_cell}
 -- a slot that is not damaged shows its mark
 whole_mark : (s : Spans) (i : ℕ) → is_damaged (bare s i) ≡ false → mark_of s i ≡ get_or s.marks i 0
 unfolding is_damaged
-whole_mark s i h = by-lt 2 (mark_of s i)
+whole_mark s i h = by_lt 2 (mark_of s i)
     (λ l e. let z : true ≡ false = rw (slot_cell s (λ j. tt {0}) i, cell_bad (mark_of s i) (key_at s i) (tt {0}) l) at h in clash cc)
     (λ l e. mark_raw s i l)
 

@@ -9,7 +9,7 @@ use lib.ListN.{length, get_or, get_or-eq_default}
 use Rattle.model.specs.Slots.{live}
 use Rattle.model.specs.Sound.{SoundSlots}
 use Rattle.model.specs.Lawful.{SoundTable}
-use Rattle.model.proofs.Cases.{by-lt, by-eq}
+use Rattle.model.proofs.Cases.{by_lt, by_eq}
 use Rattle.digest.specs.Home.{home_of}
 use Rattle.kinds.specs.Columns.{Column}
 use Rattle.byte_slots.specs.Memory.{Spans, end_at, key_at, slots_of, bare, used_of, ByteMemory, byte_store, live_at, offset_of, length_of, SoundSpans}
@@ -25,7 +25,7 @@ module _ {W : Type 0} (s : Spans) (read : ℕ → W) where
   pub laid_paper : SoundSpans s → SoundHere → SoundAsWorded s
   unfolding end_at used_of
   laid_paper g h = record {
-    marks = λ i. by-lt 2 (get_or s.marks i 0) (λ l x. absurd (above i l)) (λ l x. l);
+    marks = λ i. by_lt 2 (get_or s.marks i 0) (λ l x. absurd (above i l)) (λ l x. l);
     once = λ i j a b e. h.once i j (key_at s j) (read i) (read j) (live_below s.marks i a) (live_below s.marks j b) (lives i (key_at s j) a e) (lives j (key_at s j) b refl);
     reach = λ k n m l c a q z. h.reach k _ n m l c (lives _ k a q) (says_never s read _ z);
     disjoint = λ i j b x y d p q. omega (arith, g.tiled.apart i j x y d (omega arith));
@@ -42,7 +42,7 @@ module _ {W : Type 0} (s : Spans) (read : ℕ → W) where
       lives i k a e = says_live s read i a (inside i a) ∙ ap (λ x. live x (read i)) e
 
       above : (i : ℕ) → 2 < get_or s.marks i 0 → ⊥
-      above i l = by-lt i (length s.marks) (λ b x. h.whole i b (says_bad s read i l)) (λ b x. omega (arith, get_or-eq_default s.marks 0 b))
+      above i l = by_lt i (length s.marks) (λ b x. h.whole i b (says_bad s read i l)) (λ b x. omega (arith, get_or-eq_default s.marks 0 b))
 
       held : (b : ℕ) → b < used_of s → (i : ℕ) × live_at s i × Covers s i b
       held b l =
@@ -62,10 +62,10 @@ unfolding end_at
 paper_laid s p = record {
   tiled = record {
     ends = p.ends;
-    apart = λ i j a b d c. by-lt (offset_of s i) (offset_of s j + length_of s j)
-        (λ f x. absurd (by-lt (offset_of s i) (offset_of s j)
-        (λ g y. by-eq (length_of s j) 0 (λ q z. p.empty j i b a q g c) (λ q z. p.disjoint i j (offset_of s j) a b d (omega arith, c) (omega arith, omega arith)))
-        (λ g y. by-eq (length_of s i) 0 (λ q z. p.empty i j a b q (omega arith) f) (λ q z. p.disjoint i j (offset_of s i) a b d (omega arith, omega arith) (g, f)))))
+    apart = λ i j a b d c. by_lt (offset_of s i) (offset_of s j + length_of s j)
+        (λ f x. absurd (by_lt (offset_of s i) (offset_of s j)
+        (λ g y. by_eq (length_of s j) 0 (λ q z. p.empty j i b a q g c) (λ q z. p.disjoint i j (offset_of s j) a b d (omega arith, c) (omega arith, omega arith)))
+        (λ g y. by_eq (length_of s i) 0 (λ q z. p.empty i j a b q (omega arith) f) (λ q z. p.disjoint i j (offset_of s i) a b d (omega arith, omega arith) (g, f)))))
         (λ f x. f);
   };
   within = p.within;

@@ -14,9 +14,9 @@ use Rattle.kinds.specs.declared.Probed.{Probed}
 use Rattle.kinds.specs.declared.Probed.TheVariants as probed
 use Rattle.kinds.specs.Columns.{values}
 use Rattle.byte_slots.specs.declared.InsertPlan.{InsertPlan}
-use Rattle.byte_slots.specs.declared.InsertPlan.TheVariants as insertPlan
+use Rattle.byte_slots.specs.declared.InsertPlan.TheVariants as insert_plan
 use Rattle.byte_slots.specs.declared.RemovePlan.{RemovePlan}
-use Rattle.byte_slots.specs.declared.RemovePlan.TheVariants as removePlan
+use Rattle.byte_slots.specs.declared.RemovePlan.TheVariants as remove_plan
 use Rattle.byte_slots.specs.Memory.{ByteMemory, fitting, full_damage, used_of, keeping}
 use Rattle.byte_slots.specs.Kinds.{maps}
 use Rattle.byte_slots.specs.Probing.{path_of}
@@ -26,7 +26,7 @@ use Rattle.byte_slots.proofs.Plans.{kept_plan_law}
 use Rattle.byte_slots.proofs.Seeking.{long_is, short_is, by_long, long_only}
 
 -- a plan that found the key has its slot from the path
-insert_plan_hit : {i e : ℕ} (u : ℕ) (room : Bool) (x : Probed) → insert_plan_by u room x ≡ insertPlan.Hit i e → x ≡ probed.Hit i e
+insert_plan_hit : {i e : ℕ} (u : ℕ) (room : Bool) (x : Probed) → insert_plan_by u room x ≡ insert_plan.Hit i e → x ≡ probed.Hit i e
 unfolding insert_plan_by
 insert_plan_hit u room (probed.Hit a b) q = cc
 insert_plan_hit u true (probed.Free a b) q = clash cc
@@ -38,19 +38,19 @@ module _ (m : ByteMemory values) (k : List ℕ) where
   -- the plans, from the test of the values
   pub map_plan_insert_long : {r : InsertPlan} → length m.spans.marks ≡ length m.words → r ≡ planning_insert m.spans k → r ≡ planning_map_insert m k
   unfolding planning_map_insert
-  map_plan_insert_long e p = long_is m (planning_insert m.spans k) (insertPlan.Refused Sizes) e p
+  map_plan_insert_long e p = long_is m (planning_insert m.spans k) (insert_plan.Refused Sizes) e p
 
-  pub map_plan_insert_short : (length m.spans.marks ≡ length m.words → ⊥) → insertPlan.Refused Sizes ≡ planning_map_insert m k
+  pub map_plan_insert_short : (length m.spans.marks ≡ length m.words → ⊥) → insert_plan.Refused Sizes ≡ planning_map_insert m k
   unfolding planning_map_insert
-  map_plan_insert_short h = short_is m (planning_insert m.spans k) (insertPlan.Refused Sizes) h
+  map_plan_insert_short h = short_is m (planning_insert m.spans k) (insert_plan.Refused Sizes) h
 
   pub map_plan_remove_long : {r : RemovePlan} → length m.spans.marks ≡ length m.words → r ≡ planning_remove m.spans k → r ≡ planning_map_remove m k
   unfolding planning_map_remove
-  map_plan_remove_long e p = long_is m (planning_remove m.spans k) (removePlan.Refused Sizes) e p
+  map_plan_remove_long e p = long_is m (planning_remove m.spans k) (remove_plan.Refused Sizes) e p
 
-  pub map_plan_remove_short : (length m.spans.marks ≡ length m.words → ⊥) → removePlan.Refused Sizes ≡ planning_map_remove m k
+  pub map_plan_remove_short : (length m.spans.marks ≡ length m.words → ⊥) → remove_plan.Refused Sizes ≡ planning_map_remove m k
   unfolding planning_map_remove
-  map_plan_remove_short h = short_is m (planning_remove m.spans k) (removePlan.Refused Sizes) h
+  map_plan_remove_short h = short_is m (planning_remove m.spans k) (remove_plan.Refused Sizes) h
 
   -- insert and remove by what their plans say
   entry_short : eqb (length m.spans.marks) (length m.words) ≡ false → entry maps m k ≡ no 1
@@ -59,7 +59,7 @@ module _ (m : ByteMemory values) (k : List ℕ) where
 
   pub entry_planned : entry maps m k ≡ spot_of (values.read m.words) (planning_map_insert m k)
   unfolding planning_map_insert
-  entry_planned = by_long m (planning_insert m.spans k) (insertPlan.Refused Sizes) (spot_of (values.read m.words)) (entry maps m k) (entry_planning values m k) entry_short
+  entry_planned = by_long m (planning_insert m.spans k) (insert_plan.Refused Sizes) (spot_of (values.read m.words)) (entry maps m k) (entry_planning values m k) entry_short
 
   remove_short : eqb (length m.spans.marks) (length m.words) ≡ false → remove maps m k ≡ no 1
   unfolding remove
@@ -67,10 +67,10 @@ module _ (m : ByteMemory values) (k : List ℕ) where
 
   pub remove_planned : remove maps m k ≡ lost_of (values.read m.words) (planning_map_remove m k)
   unfolding planning_map_remove
-  remove_planned = by_long m (planning_remove m.spans k) (removePlan.Refused Sizes) (lost_of (values.read m.words)) (remove maps m k) (remove_planning values m k) remove_short
+  remove_planned = by_long m (planning_remove m.spans k) (remove_plan.Refused Sizes) (lost_of (values.read m.words)) (remove maps m k) (remove_planning values m k) remove_short
 
   -- a found slot is one of the table's
-  plan_insert_inside : {i e : ℕ} → planning_insert m.spans k ≡ insertPlan.Hit i e → i < length m.spans.marks
+  plan_insert_inside : {i e : ℕ} → planning_insert m.spans k ≡ insert_plan.Hit i e → i < length m.spans.marks
   unfolding planning_insert planning_kept
   plan_insert_inside q = by_bool (fitting m.spans)
       (λ f.
@@ -80,8 +80,8 @@ module _ (m : ByteMemory values) (k : List ℕ) where
       (λ h. path_inside values m k f (insert_plan_hit (used_of m.spans) (room_for m.spans k) (path_of m.spans k) (rw h at x))))
       (λ f. clash (cc (rw f at q)))
 
-  pub map_plan_insert_inside : {r : InsertPlan} {i e : ℕ} → r ≡ planning_map_insert m k → r ≡ insertPlan.Hit i e → i < length m.words
+  pub map_plan_insert_inside : {r : InsertPlan} {i e : ℕ} → r ≡ planning_map_insert m k → r ≡ insert_plan.Hit i e → i < length m.words
   unfolding planning_map_insert
   map_plan_insert_inside p q =
-      let (x, l) = long_only m (planning_insert m.spans k) (insertPlan.Refused Sizes) p (λ z. clash (cc)) in
+      let (x, l) = long_only m (planning_insert m.spans k) (insert_plan.Refused Sizes) p (λ z. clash (cc)) in
       omega (arith, plan_insert_inside (sym x ∙ q))

@@ -18,9 +18,9 @@ use Rattle.byte_slots.specs.declared.Surveyed.TheVariants as surveyed
 use Rattle.byte_slots.specs.declared.Kept.{Kept}
 use Rattle.byte_slots.specs.declared.Kept.TheVariants as kept
 use Rattle.byte_slots.specs.declared.InsertPlan.{InsertPlan}
-use Rattle.byte_slots.specs.declared.InsertPlan.TheVariants as insertPlan
+use Rattle.byte_slots.specs.declared.InsertPlan.TheVariants as insert_plan
 use Rattle.byte_slots.specs.declared.RemovePlan.{RemovePlan}
-use Rattle.byte_slots.specs.declared.RemovePlan.TheVariants as removePlan
+use Rattle.byte_slots.specs.declared.RemovePlan.TheVariants as remove_plan
 use Rattle.byte_slots.specs.Memory.{Spans, bare, used_of, full_damage, fitting, asked_of, keeping}
 use Rattle.byte_slots.specs.Planning.{insert_plan_by, room_for, planning_kept, kept_plan, planning_insert, remove_plan_by, planning_remove}
 use Rattle.byte_slots.specs.Probing.{path_from, path_of}
@@ -52,7 +52,7 @@ module _ (s : Spans) {r : Surveyed} (p : r ≡ surveying s) where
 
 -- the plan of a key that may be stored
 module _ (s : Spans) (k : List ℕ) {r : Surveyed} (v : r ≡ surveying s) where
-  pub plan_kept_bad : r ≡ surveyed.Damaged → insertPlan.Refused refusal.Damaged ≡ planning_kept s k
+  pub plan_kept_bad : r ≡ surveyed.Damaged → insert_plan.Refused refusal.Damaged ≡ planning_kept s k
   unfolding planning_kept
   plan_kept_bad x = rw (surveyed_bad s v x)
 
@@ -61,18 +61,18 @@ module _ (s : Spans) (k : List ℕ) {r : Surveyed} (v : r ≡ surveying s) where
   plan_kept_path x i y z = let (n, o) = surveyed_used s v x in rw (n, ← i, ← y, ← o) z
 
 -- a plan that is no refusal: the key may be stored
-pub kept_plan_law : (x : Kept) {p a : InsertPlan} → kept_plan x p ≡ a → ((r : Refusal) → a ≡ insertPlan.Refused r → ⊥) → (x ≡ kept.Fine) × (p ≡ a)
+pub kept_plan_law : (x : Kept) {p a : InsertPlan} → kept_plan x p ≡ a → ((r : Refusal) → a ≡ insert_plan.Refused r → ⊥) → (x ≡ kept.Fine) × (p ≡ a)
 unfolding kept_plan
 kept_plan_law kept.Fine e h = (refl, e)
 kept_plan_law (kept.Refused r) e h = absurd (h r (sym e))
 
 -- the plans, by the tests in their order
 module _ (s : Spans) (k : List ℕ) {b : Bool} (p : b ≡ fitting s) where
-  pub plan_insert_unfit : b ≡ false → insertPlan.Refused refusal.Sizes ≡ planning_insert s k
+  pub plan_insert_unfit : b ≡ false → insert_plan.Refused refusal.Sizes ≡ planning_insert s k
   unfolding planning_insert
   plan_insert_unfit q = rw (sym p ∙ q)
 
-  pub plan_remove_unfit : b ≡ false → removePlan.Refused refusal.Sizes ≡ planning_remove s k
+  pub plan_remove_unfit : b ≡ false → remove_plan.Refused refusal.Sizes ≡ planning_remove s k
   unfolding planning_remove
   plan_remove_unfit q = rw (sym p ∙ q)
 
@@ -81,17 +81,17 @@ module _ (s : Spans) (k : List ℕ) {b : Bool} (p : b ≡ fitting s) where
     unfolding planning_insert kept_plan
     plan_insert_kept e z = rw (sym p ∙ q, sym w ∙ e) z
 
-    pub plan_insert_refused : {x : Refusal} → t ≡ kept.Refused x → insertPlan.Refused x ≡ planning_insert s k
+    pub plan_insert_refused : {x : Refusal} → t ≡ kept.Refused x → insert_plan.Refused x ≡ planning_insert s k
     unfolding planning_insert kept_plan
     plan_insert_refused e = rw (sym p ∙ q, sym w ∙ e)
 
   module _ (q : b ≡ true) {t : Bool} (w : t ≡ eqb (asked_of k) 0) where
-    pub plan_remove_long : t ≡ false → removePlan.Refused refusal.LongKey ≡ planning_remove s k
+    pub plan_remove_long : t ≡ false → remove_plan.Refused refusal.LongKey ≡ planning_remove s k
     unfolding planning_remove
     plan_remove_long e = rw (sym p ∙ q, sym w ∙ e)
 
     module _ (e : t ≡ true) {r : Surveyed} (v : r ≡ surveying s) where
-      pub plan_remove_bad : r ≡ surveyed.Damaged → removePlan.Refused refusal.Damaged ≡ planning_remove s k
+      pub plan_remove_bad : r ≡ surveyed.Damaged → remove_plan.Refused refusal.Damaged ≡ planning_remove s k
       unfolding planning_remove
       plan_remove_bad x = rw (sym p ∙ q, sym w ∙ e, surveyed_bad s v x)
 

@@ -9,7 +9,7 @@ use borrow.Author.Tests.{lt-ltb, le-ltb, ltb-true, eqb-true, ne_eqb}
 use lib.Dec.{ltb, eqb}
 use lib.ListN.{length, get_or}
 use Rattle.model.specs.Slots.{is_damaged, weigh, total, any_damaged}
-use Rattle.model.proofs.Cases.{both, by_bool, by-lt, clash}
+use Rattle.model.proofs.Cases.{both, by_bool, by_lt, clash}
 use Rattle.model.proofs.Slots.{damaged_bad}
 use Rattle.digest.specs.Home.{key_limit}
 use Rattle.kinds.specs.Marks.{cell}
@@ -24,14 +24,14 @@ use Rattle.byte_slots.proofs.Sizes.{Sized, fitting_says}
 -- the largest end so far tells whether a live span ends beyond u
 higher_tells : (u e top : ℕ) → cond (ltb u e) true (ltb u top) ≡ ltb u (higher_end e top)
 unfolding higher_end
-higher_tells u e top = by-lt top e
-    (λ l p. rw p (by-lt u e (λ a r. rw r) (λ a r. rw (r, le-ltb u top (omega arith)))))
-    (λ l p. rw p (by-lt u e (λ a r. rw (r, lt-ltb u top (omega arith))) (λ a r. rw r)))
+higher_tells u e top = by_lt top e
+    (λ l p. rw p (by_lt u e (λ a r. rw r) (λ a r. rw (r, le-ltb u top (omega arith)))))
+    (λ l p. rw p (by_lt u e (λ a r. rw (r, lt-ltb u top (omega arith))) (λ a r. rw r)))
 
 -- it is no less than either
 higher_both : (e top : ℕ) {t n : ℕ} → t ≡ higher_end e top → t ≤ n → (e ≤ n) × (top ≤ n)
 unfolding higher_end
-higher_both e top p l = by-lt top e
+higher_both e top p l = by_lt top e
     (λ a q. let z : _ ≡ e = p ∙ rw q in (omega arith, omega arith))
     (λ a q. let z : _ ≡ top = p ∙ rw q in (omega arith, omega arith))
 
@@ -128,13 +128,13 @@ module _ {s : Spans} {used top i : ℕ} (w : Surveying s used top i) where
 
     pub survey_over : length s.arena < used → Damaged ≡ surveying s
     unfolding surveying
-    survey_over h = by-lt (length s.arena) top
+    survey_over h = by_lt (length s.arena) top
         (λ a e. rw (past_harms a))
         (λ a e. rw (harm_is a, lt-ltb (length s.arena) used h))
 
     pub survey_beyond : used ≤ length s.arena → used < top → Damaged ≡ surveying s
     unfolding surveying
-    survey_beyond k h = by-lt (length s.arena) top
+    survey_beyond k h = by_lt (length s.arena) top
         (λ a e. rw (past_harms a))
         (λ a e. rw (harm_is a, le-ltb (length s.arena) used k, lt-ltb used top h))
 

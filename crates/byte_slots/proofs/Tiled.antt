@@ -6,7 +6,7 @@ use native.Mathlib.Omega.{arith}
 use borrow.Author.Tests.{leb-true, leb-false}
 use lib.Dec.{leb}
 use Rattle.model.specs.Slots.{Table, total, weigh}
-use Rattle.model.proofs.Cases.{by_bool, by-lt}
+use Rattle.model.proofs.Cases.{by_bool, by_lt}
 use Rattle.byte_slots.specs.Memory.{fall, Tiled}
 
 -- An offset p stays before the gap from o of length l, or falls by l from behind it.
@@ -97,7 +97,7 @@ pack g t (suc n) {live} {off} {len} {u} T h = one (h n (omega arith)) (pack g t 
 map_probe : {P : ℕ → Type 0} (n : ℕ) → ((i : ℕ) → i < n → P i ⊎ (P i → ⊥)) → ((i : ℕ) × P i) ⊎ ((i : ℕ) → i < n → P i → ⊥)
 map_probe zero h = inr (λ i l p. omega arith)
 map_probe {P} (suc n) h = ⊎_elim (λ p. inl (n, p))
-    (λ q. ⊎_elim inl (λ none. inr (λ i l p. by-lt i n (λ b e. none i b p) (λ b e. let r : i ≡ n = omega arith in q (subst P r p)))) (map_probe n (λ i l. h i (omega arith))))
+    (λ q. ⊎_elim inl (λ none. inr (λ i l p. by_lt i n (λ b e. none i b p) (λ b e. let r : i ≡ n = omega arith in q (subst P r p)))) (map_probe n (λ i l. h i (omega arith))))
     (h n (omega arith))
 
 -- Spans that tile u bytes and weigh u cover each of these.
@@ -109,11 +109,11 @@ cover g t n {live} {off} {len} {u} T h high e k l = ⊎_elim (λ r. (r.0, r.1.0,
 
     decided : (i : ℕ) → Counted (live i) (weigh g (t i)) (len i) → Holds i ⊎ (Holds i → ⊥)
     decided i (idle a f) = inr (λ p. a p.0)
-    decided i (counts a f) = by-lt k (off i) (λ b x. inr (λ p. omega arith)) (λ b x. by-lt k (off i + len i) (λ c y. inl (a, b, c)) (λ c y. inr (λ p. omega arith)))
+    decided i (counts a f) = by_lt k (off i) (λ b x. inr (λ p. omega arith)) (λ b x. by_lt k (off i + len i) (λ c y. inl (a, b, c)) (λ c y. inr (λ p. omega arith)))
 
     hole : ((i : ℕ) → i < n → Holds i → ⊥) → ⊥
     hole none = omega (
       arith,
       pack g t n (close T {live' = live} {off' = λ j. fall (k + 1) 1 1 (off j)} {len' = len} k 1 (omega arith)
-          (λ j a. record { was = a; offset = refl; length = refl; clear = λ c. by-lt k (off j + len j) (λ b x. absurd (none j (high j a) (a, omega arith, b))) (λ b x. b) })) h,
+          (λ j a. record { was = a; offset = refl; length = refl; clear = λ c. by_lt k (off j + len j) (λ b x. absurd (none j (high j a) (a, omega arith, b))) (λ b x. b) })) h,
     )

@@ -11,7 +11,7 @@ use lib.Dec.{eqb, leb}
 use lib.ListN.{length, get_or, length-set, length-replicate}
 use lib.Seq.{get_or-set_same, get_or-set_other}
 use Rattle.model.specs.Slots.{Slot, freed, live, Table, put, made, weigh, any_damaged}
-use Rattle.model.proofs.Cases.{by_bool, by-eq, clash}
+use Rattle.model.proofs.Cases.{by_bool, by_eq, clash}
 use Rattle.model.proofs.Slots.{by_put, total_put, damaged_not, damaged_bad}
 use Rattle.model.proofs.Finite.{total_dead}
 use Rattle.lists.proofs.Parts.{get_d_zeros}
@@ -96,7 +96,7 @@ module _ (s : Spans) (i : ℕ) (k : List ℕ) (room : used_of s + length k ≤ l
     -- a live span is the new one, or stands where it stood
     fill_span : (j : ℕ) → live_at (filled s i k) j → Extended (live_at s) (offset_of s) (length_of s) (offset_of (filled s i k)) (length_of (filled s i k)) (used_of s) (length k) i j
     unfolding filled
-    fill_span j e = by-eq j i
+    fill_span j e = by_eq j i
         (λ q x. new q (rw q (get_or-set_same s.offsets i (used_of s) 0 b)) (rw q (get_or-set_same s.lengths i (length k) 0 c)))
         (λ q x. old (sym (get_or-set_other s.marks i j 1 0 q) ∙ e) (get_or-set_other s.offsets i j (used_of s) 0 q) (get_or-set_other s.lengths i j (length k) 0 q))
 
@@ -162,7 +162,7 @@ module _ (s : Spans) (i : ℕ) (L : SoundSpans s) (a : live_at s i) where
   -- the slots that are live after it were live, and i is not one of them
   lives : (j : ℕ) → live_at (emptied s i) j → (j ≡ i → ⊥) × live_at s j
   unfolding emptied
-  lives j e = by-eq j i
+  lives j e = by_eq j i
       (λ q x. absurd (omega (arith, rw q at e, get_or-set_same s.marks i 2 0 (live_below s.marks i a))))
       (λ q x. (q, sym (get_or-set_other s.marks i j 2 0 q) ∙ e))
 

@@ -11,7 +11,7 @@ use Rattle.model.specs.Path.{Find, hit, miss, damage}
 use Rattle.model.specs.Store.{path, slot_at, used}
 use Rattle.model.specs.Calls.{rule}
 use Rattle.model.specs.Lawful.{Steady}
-use Rattle.model.proofs.Cases.{by-lt, both, clash}
+use Rattle.model.proofs.Cases.{by_lt, both, clash}
 use Rattle.model.proofs.Running.{bytes_there, free_slot}
 use Rattle.digest.specs.Home.{home_of}
 use Rattle.answers.specs.declared.Refusal.{Refusal}
@@ -44,7 +44,7 @@ module _ (s : Spans) (k : List ℕ) {u : ℕ} (y : Storable s u k) where
   free_along : (x : Find (Unit {0})) → path sets (as_set s) k ≡ x → {i e : ℕ} → along (length s.marks) (home_of 0 (length s.marks) k) x ≡ Free i e → (i < length s.marks) × (frees (bare s i) ≡ true) × (used sets (as_set s) + length k ≤ length s.arena)
   unfolding along slot_at
   free_along (hit n w) q c = clash cc
-  free_along (miss e' f) q {i} {e} c = by-lt f (length s.marks)
+  free_along (miss e' f) q {i} {e} c = by_lt f (length s.marks)
       (λ l t.
       let z : slot_at sets (as_set s) k f ≡ i = cc (rw t at c) in
       let (a, b) = free_slot sets steady (as_set s) k tt [] y.ready.room e' f q in

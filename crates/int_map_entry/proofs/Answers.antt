@@ -21,7 +21,7 @@ use Rattle.int_map_occupied.specs.declared.Held.{Held}
 use Rattle.int_map_occupied.specs.declared.Held.TheVariants as held
 use Rattle.int_map_occupied.specs.declared.Swapped.{Swapped}
 use Rattle.int_map_occupied.specs.declared.Swapped.TheVariants as swapped
-use Rattle.int_map_vacant.specs.declared.InSlot.TheVariants as in-slot
+use Rattle.int_map_vacant.specs.declared.InSlot.TheVariants as in_slot
 use Rattle.int_slots.specs.Maps.{maps}
 use Rattle.kinds.specs.Told.{told}
 use Rattle.kinds.proofs.Told.{said, left, retold}
@@ -77,20 +77,20 @@ module _ (marks keys vs : List ℕ) (k v : ℕ) (a : Entered) where
 
     -- occupied: the handle's get
     module _ {r : Held} (p : held_numbers r ≡ held_of maps (memory marks keys vs) h.slot k) where
-      pub or_insert_kept : {x : ℕ} {g : Occupied} → r ≡ held.Value x g → told (in_slot_numbers (in-slot.Now h x)) (memory marks keys vs) ≡ or_insert_of maps (memory marks keys vs) (handle_of (length marks) a) k v
+      pub or_insert_kept : {x : ℕ} {g : Occupied} → r ≡ held.Value x g → told (in_slot_numbers (in_slot.Now h x)) (memory marks keys vs) ≡ or_insert_of maps (memory marks keys vs) (handle_of (length marks) a) k v
       unfolding or_insert_of or_insert after_or_insert slot_of in_slot_numbers in_slot_said
       or_insert_kept q = rw (on, get_ok marks keys vs h.slot k p q)
 
-      pub or_insert_refused : {x : Refusal} → r ≡ held.Refused x → told (in_slot_numbers (in-slot.Refused x)) (memory marks keys vs) ≡ or_insert_of maps (memory marks keys vs) (handle_of (length marks) a) k v
+      pub or_insert_refused : {x : Refusal} → r ≡ held.Refused x → told (in_slot_numbers (in_slot.Refused x)) (memory marks keys vs) ≡ or_insert_of maps (memory marks keys vs) (handle_of (length marks) a) k v
       unfolding or_insert_of or_insert after_or_insert slot_of in_slot_numbers in_slot_said
       or_insert_refused q = rw (on, get_no marks keys vs h.slot k p q)
 
     -- or its set
     module _ {r : Swapped} {marks' keys' vs' : List ℕ} (p : told (swapped_numbers r) (memory marks' keys' vs') ≡ set_of maps (memory marks keys vs) h.slot k v) where
-      pub insert_entry_set : {x : ℕ} {g : Occupied} → r ≡ swapped.Was x g → told (in_slot_numbers (in-slot.Now h v)) (memory marks' keys' vs') ≡ insert_entry_of maps (memory marks keys vs) (handle_of (length marks) a) k v
+      pub insert_entry_set : {x : ℕ} {g : Occupied} → r ≡ swapped.Was x g → told (in_slot_numbers (in_slot.Now h v)) (memory marks' keys' vs') ≡ insert_entry_of maps (memory marks keys vs) (handle_of (length marks) a) k v
       unfolding set_of insert_entry_of insert_entry after_insert_entry slot_of give in_slot_numbers in_slot_said
       insert_entry_set q = rw on (retold (rw (swapped_ok h.slot (occupied_get maps (memory marks keys vs) h.slot k) (said p) q)) (left p))
 
-      pub insert_entry_refused : {x : Refusal} → r ≡ swapped.Refused x → told (in_slot_numbers (in-slot.Refused x)) (memory marks' keys' vs') ≡ insert_entry_of maps (memory marks keys vs) (handle_of (length marks) a) k v
+      pub insert_entry_refused : {x : Refusal} → r ≡ swapped.Refused x → told (in_slot_numbers (in_slot.Refused x)) (memory marks' keys' vs') ≡ insert_entry_of maps (memory marks keys vs) (handle_of (length marks) a) k v
       unfolding set_of insert_entry_of insert_entry after_insert_entry slot_of give in_slot_numbers in_slot_said
       insert_entry_refused q = rw on (retold (rw (swapped_no h.slot (occupied_get maps (memory marks keys vs) h.slot k) (said p) q)) (left p))

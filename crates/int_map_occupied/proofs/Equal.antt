@@ -8,7 +8,7 @@ use Rattle.int_map_occupied.specs.declared.Swapped.TheVariants as swapped
 use Rattle.int_map_occupied.specs.declared.Taken.{Taken}
 use Rattle.int_map_occupied.specs.declared.Taken.TheVariants as taken
 use Rattle.int_map_occupied.specs.declared.TakenEntry.{TakenEntry}
-use Rattle.int_map_occupied.specs.declared.TakenEntry.TheVariants as taken-entry
+use Rattle.int_map_occupied.specs.declared.TakenEntry.TheVariants as taken_entry
 use Rattle.int_map_occupied.specs.Numbers.{held_numbers, swapped_numbers, taken_numbers, taken_entry_numbers}
 
 pub held_numbers_injective : (a b : Held) → held_numbers a ≡ held_numbers b → a ≡ b
@@ -34,7 +34,7 @@ taken_numbers_injective (taken.Refused r) (taken.Refused r') q = ap taken.Refuse
 
 pub taken_entry_numbers_injective : (a b : TakenEntry) → taken_entry_numbers a ≡ taken_entry_numbers b → a ≡ b
 unfolding taken_entry_numbers
-taken_entry_numbers_injective (taken-entry.Removed k v) (taken-entry.Removed k' v') q = cc (ap (λ n. n.key) q, ap (λ n. n.value) q)
-taken_entry_numbers_injective (taken-entry.Removed k v) (taken-entry.Refused r') q = other_case q refl
-taken_entry_numbers_injective (taken-entry.Refused r) (taken-entry.Removed k' v') q = other_case q refl
-taken_entry_numbers_injective (taken-entry.Refused r) (taken-entry.Refused r') q = ap taken-entry.Refused (number_of_injective r r' (ap (λ n. n.refusal) q))
+taken_entry_numbers_injective (taken_entry.Removed k v) (taken_entry.Removed k' v') q = cc (ap (λ n. n.key) q, ap (λ n. n.value) q)
+taken_entry_numbers_injective (taken_entry.Removed k v) (taken_entry.Refused r') q = other_case q refl
+taken_entry_numbers_injective (taken_entry.Refused r) (taken_entry.Removed k' v') q = other_case q refl
+taken_entry_numbers_injective (taken_entry.Refused r) (taken_entry.Refused r') q = ap taken_entry.Refused (number_of_injective r r' (ap (λ n. n.refusal) q))

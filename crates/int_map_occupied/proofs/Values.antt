@@ -7,7 +7,7 @@ use native.Mathlib.Omega.{arith}
 use borrow.Author.Tests.{lt-ltb, le-ltb}
 use lib.ListN.{length, get_or, set}
 use Rattle.model.specs.Calls.{Or, no, ok, need, pass, held_on, held_at, occupied_get, after_set, occupied_remove, after_drop, acted}
-use Rattle.model.proofs.Cases.{by_bool, by-lt, clash}
+use Rattle.model.proofs.Cases.{by_bool, by_lt, clash}
 use Rattle.answers.proofs.Told.{other_case}
 use Rattle.answers.specs.declared.Refusal.{Refusal}
 use Rattle.answers.specs.declared.Refusal.TheVariants.{Sizes, BadHandle}
@@ -22,7 +22,7 @@ use Rattle.int_map_occupied.specs.declared.Held.TheVariants as held
 use Rattle.int_map_occupied.specs.declared.Swapped.TheVariants as swapped
 use Rattle.int_map_occupied.specs.declared.Taken.{Taken}
 use Rattle.int_map_occupied.specs.declared.Taken.TheVariants as taken
-use Rattle.int_map_occupied.specs.declared.TakenEntry.TheVariants as taken-entry
+use Rattle.int_map_occupied.specs.declared.TakenEntry.TheVariants as taken_entry
 use Rattle.int_slots.specs.Maps.{maps}
 use Rattle.kinds.specs.Told.{told}
 use Rattle.kinds.proofs.Told.{said, left, retold}
@@ -81,7 +81,7 @@ module _ (marks keys vs : List ℕ) where
     unfolding occupied_get held_at need pass sized_of
     good_slot e =
         by_bool (maps.sized (memory marks keys vs))
-        (λ f. by-lt s (length marks)
+        (λ f. by_lt s (length marks)
         (λ l t. let (a, b) = same_long (memory marks keys vs) (sym f) refl in (l, a, b))
         (λ l t. clash (cc (rw (f, t) at e))))
         (λ f. clash (cc (rw f at e)))
@@ -122,10 +122,10 @@ module _ (marks keys vs : List ℕ) where
 
     -- where a remove answered r and left other lists
     module _ {r : Taken} {marks' keys' vs' : List ℕ} (p : told (taken_numbers r) (memory marks' keys' vs') ≡ taken_of maps (memory marks keys vs) s k) where
-      pub remove_entry_done : {old : ℕ} → r ≡ taken.Removed old → told (taken_entry_numbers (taken-entry.Removed k old)) (memory marks' keys' vs') ≡ remove_entry_of (memory marks keys vs) s k
+      pub remove_entry_done : {old : ℕ} → r ≡ taken.Removed old → told (taken_entry_numbers (taken_entry.Removed k old)) (memory marks' keys' vs') ≡ remove_entry_of (memory marks keys vs) s k
       unfolding taken_of remove_entry_of taken_entry_numbers taken_entry_said
       remove_entry_done q = retold (rw (taken_ok (occupied_remove maps (memory marks keys vs) s k) (said p) q)) (left p)
 
-      pub remove_entry_refused : {e : Refusal} → r ≡ taken.Refused e → told (taken_entry_numbers (taken-entry.Refused e)) (memory marks' keys' vs') ≡ remove_entry_of (memory marks keys vs) s k
+      pub remove_entry_refused : {e : Refusal} → r ≡ taken.Refused e → told (taken_entry_numbers (taken_entry.Refused e)) (memory marks' keys' vs') ≡ remove_entry_of (memory marks keys vs) s k
       unfolding taken_of remove_entry_of taken_entry_numbers taken_entry_said
       remove_entry_refused q = retold (rw (taken_no (occupied_remove maps (memory marks keys vs) s k) (said p) q)) (left p)

@@ -10,7 +10,7 @@ use Rattle.int_map_occupied.specs.declared.Swapped.TheVariants as swapped
 use Rattle.int_map_occupied.specs.declared.Taken.{Taken}
 use Rattle.int_map_occupied.specs.declared.Taken.TheVariants as taken
 use Rattle.int_map_occupied.specs.declared.TakenEntry.{TakenEntry}
-use Rattle.int_map_occupied.specs.declared.TakenEntry.TheVariants as taken-entry
+use Rattle.int_map_occupied.specs.declared.TakenEntry.TheVariants as taken_entry
 
 -- Of an occupied handle's get: case 17, the value and the handle's slot.
 unfoldable pub held_numbers : Held → Numbers
@@ -29,5 +29,5 @@ taken_numbers (taken.Refused r) = refusal_numbers r
 
 -- Of its remove_entry: case 11, the key and the value.
 unfoldable pub taken_entry_numbers : TakenEntry → Numbers
-taken_entry_numbers (taken-entry.Removed k v) = said_case REMOVED k v 0 0
-taken_entry_numbers (taken-entry.Refused r) = refusal_numbers r
+taken_entry_numbers (taken_entry.Removed k v) = said_case REMOVED k v 0 0
+taken_entry_numbers (taken_entry.Refused r) = refusal_numbers r

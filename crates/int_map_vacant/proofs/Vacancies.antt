@@ -10,7 +10,7 @@ use lib.ListN.{length, get_or, set}
 use Rattle.model.specs.Path.{Find, hit, miss, damage}
 use Rattle.model.specs.Store.{path, slot_at, used}
 use Rattle.model.specs.Calls.{Or, no, ok, need, pass, give, acted, spot_by, entry, good_for, vacancy, vacant_insert, after_fill}
-use Rattle.model.proofs.Cases.{by_bool, by-eq, clash}
+use Rattle.model.proofs.Cases.{by_bool, by_eq, clash}
 use Rattle.digest.specs.Home.{home_of_word}
 use Rattle.answers.proofs.Told.{other_case}
 use Rattle.answers.specs.declared.Refusal.{Refusal}
@@ -28,7 +28,7 @@ use Rattle.kinds.specs.Probing.{along}
 use Rattle.int_slots.specs.Seeking.{probing_beside, probing_map}
 use Rattle.kinds.proofs.Bridge.{spot_of}
 use Rattle.int_slots.proofs.Seeking.{entry_probed, path_probed, free_inside}
-use Rattle.int_map_vacant.specs.declared.InSlot.TheVariants as in-slot
+use Rattle.int_map_vacant.specs.declared.InSlot.TheVariants as in_slot
 use Rattle.int_slots.specs.Maps.{maps}
 use Rattle.kinds.specs.Told.{told}
 use Rattle.int_map_vacant.specs.Numbers.{in_slot_numbers}
@@ -109,7 +109,7 @@ done_no (ok u) p q = other_case (rw q at p) refl
 good_free : (s : ℕ) (r : Probed) → good_of s r ≡ ok tt → (e : ℕ) × (r ≡ probed.Free s e)
 unfolding need
 good_free s (probed.Hit x e) q = clash cc
-good_free s (probed.Free x e) q = by-eq s x (λ l t. (e, rw l)) (λ l t. clash (cc (rw t at q)))
+good_free s (probed.Free x e) q = by_eq s x (λ l t. (e, rw l)) (λ l t. clash (cc (rw t at q)))
 good_free s (probed.Full e) q = clash cc
 good_free s (probed.Refused r) q = clash cc
 
@@ -129,10 +129,10 @@ module _ (marks keys vs : List ℕ) (s k : ℕ) {a : Outcome} (p : outcome_numbe
       let (e, f) = good_free s (probing_beside values (memory marks keys vs) k) (sym (vacancy_probed (memory marks keys vs) s k) ∙ good q) in
       free_inside (memory marks keys vs) k refl f
 
-  pub insert_done : (v : ℕ) → a ≡ outcome.Done → told (in_slot_numbers (in-slot.Now (record { slot = s }) v)) (memory (set marks s 1) (set keys s k) (set vs s v)) ≡ vacant_insert_of maps (memory marks keys vs) s k v
+  pub insert_done : (v : ℕ) → a ≡ outcome.Done → told (in_slot_numbers (in_slot.Now (record { slot = s }) v)) (memory (set marks s 1) (set keys s k) (set vs s v)) ≡ vacant_insert_of maps (memory marks keys vs) s k v
   unfolding vacant_insert_of vacant_insert after_fill give acted in_slot_numbers in_slot_said
   insert_done v q = rw (good q)
 
-  pub insert_refused : {e : Refusal} (v : ℕ) → a ≡ outcome.Refused e → told (in_slot_numbers (in-slot.Refused e)) (memory marks keys vs) ≡ vacant_insert_of maps (memory marks keys vs) s k v
+  pub insert_refused : {e : Refusal} (v : ℕ) → a ≡ outcome.Refused e → told (in_slot_numbers (in_slot.Refused e)) (memory marks keys vs) ≡ vacant_insert_of maps (memory marks keys vs) s k v
   unfolding vacant_insert_of vacant_insert after_fill give acted in_slot_numbers in_slot_said
   insert_refused v q = rw (damaged q)

@@ -10,7 +10,7 @@ use lib.Seq.{get_or-set_same, get_or-set_other}
 use Rattle.model.specs.Slots.{Slot, never, freed, damaged, live, Table, put, made, total, weigh}
 use Rattle.model.specs.Store.{used}
 use Rattle.model.specs.Lawful.{Lawful}
-use Rattle.model.proofs.Cases.{both, by-eq, clash}
+use Rattle.model.proofs.Cases.{both, by_eq, clash}
 use Rattle.digest.specs.Home.{home_of_word, slots_fit}
 use Rattle.digest.proofs.Bounds.{home_word_below}
 use Rattle.kinds.specs.Columns.{Column}
@@ -47,7 +47,7 @@ module _ {W : Type 0} (C : Column W) (O : LawfulColumn C) where
   -- a table that has the slot s at i, and elsewhere the old slots, is the changed table
   changed : (t u : Table ℕ W) (i : ℕ) (s : Slot ℕ W) → u i ≡ s → ((j : ℕ) → (j ≡ i → ⊥) → u j ≡ t j) → u ≡ put t i s
   unfolding put
-  changed t u i s here there = fun_ext (λ j. by-eq j i (λ r e. rw (e, r) here) (λ r e. rw e (there j r)))
+  changed t u i s here there = fun_ext (λ j. by_eq j i (λ r e. rw (e, r) here) (λ r e. rw e (there j r)))
 
   -- a live slot's mark is 1, and its key is the key
   cell_live : (a b k : ℕ) (v w : W) → cell a b v ≡ live k w → (x : W) → cell a b x ≡ live k x

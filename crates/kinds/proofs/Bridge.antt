@@ -11,7 +11,7 @@ use Rattle.model.specs.Path.{from, at, stops, Find, hit, miss, damage, ends, sto
 use Rattle.model.specs.Store.{Store, path, slot_at, live_count, used, damaged_slots}
 use Rattle.model.specs.Calls.{Or, no, ok, need, Seen, found, absent, Spot, occupied, vacant, seen_by, spot_by}
 use Rattle.model.specs.Walk.{halts, halted, step_within}
-use Rattle.model.proofs.Cases.{by_bool, by-lt, clash}
+use Rattle.model.proofs.Cases.{by_bool, by_lt, clash}
 use Rattle.model.proofs.Path.{at_below, hit_at, from_low, from_here}
 use Rattle.model.proofs.Slots.{count_high}
 use Rattle.answers.specs.Refusals.{number_of}
@@ -131,7 +131,7 @@ module _ {K W : Type 0} (mark : ℕ → ℕ) (key : ℕ → K) (v : ℕ → W) w
   nexting_pace w g =
       let d : w + g - w ≡ g = omega arith in
       let j = from (λ i. halts (marks_only mark i)) g w in
-      rw (from_cells w g, d) (by-lt j (w + g)
+      rw (from_cells w g, d) (by_lt j (w + g)
       (λ l e. rw e (paced_at w (w + g) j (mark j) (from_here (λ i. halts (marks_only mark i)) g w l)))
       (λ l e. rw (e, d)))
 
@@ -148,7 +148,7 @@ pub next_inside : (mark : ℕ → ℕ) (w e : ℕ) {r : Next} {j : ℕ} → r �
 unfolding nexting_of
 next_inside mark w e {r} {j} p q =
     let x = from (λ i. halts (marks_only mark i)) (e - w) w in
-    by-lt x e
+    by_lt x e
     (λ l t. let z : x ≡ j = at_live x j (marks_only mark x) (rw t at (sym p ∙ q)) in (omega (arith, from_low (λ i. halts (marks_only mark i)) (e - w) w), omega arith))
     (λ l t. clash (cc (rw t at (sym p ∙ q))))
 
@@ -171,7 +171,7 @@ module _ {K W : Type 0} (M : Store K W) (m : M.State) (k : K) (inside : M.home m
   along_free : (x : Find W) → {s e : ℕ} → along (M.size m) (M.home m k) x ≡ Free s e → s < M.size m
   unfolding along slot_at
   along_free (hit n v) w = clash cc
-  along_free (miss e' f) {s} {e} w = by-lt f (M.size m)
+  along_free (miss e' f) {s} {e} w = by_lt f (M.size m)
       (λ l t. let u : Free (slot_at M m k f) e' ≡ Free s e = rw t at w in let z : slot_at M m k f ≡ s = cc in omega (arith, slot_inside f l))
       (λ l t. clash (cc (rw t at w)))
   along_free damage w = clash cc

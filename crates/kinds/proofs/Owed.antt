@@ -16,7 +16,7 @@ use Rattle.model.specs.Walk.{StepAnswer, pair, nothing, done, step}
 use Rattle.model.specs.Machine.{stepping}
 use Rattle.model.specs.Demand2.{grown, holds_now}
 use Rattle.model.specs.Lawful.{Lawful, Shows}
-use Rattle.model.proofs.Cases.{by_bool, by-lt, by-eq, clash}
+use Rattle.model.proofs.Cases.{by_bool, by_lt, by_eq, clash}
 use Rattle.model.proofs.Path.{hit_examined, miss_examined}
 use Rattle.model.proofs.Shows.{shows_unharmed, home_below, PathOf, here, gone as lost, path_of_law}
 use Rattle.model.proofs.Sound.{sound_look}
@@ -153,9 +153,9 @@ module _ {K W : Type 0} (M : Store K W) (L : Lawful M) (m : M.State) (f : Finite
   -- a step
   pub step_owed : (said : Or (StepAnswer K W) → Numbers) (a b : ℕ) (hand : K → W → ℕ → ℕ → ℕ → Numbers) → ((n : ℕ) → said (no n) ≡ refusing n a) → ((j : ℕ) (k : K) (v : W) (e : ℕ) → M.slots m j ≡ live k v → said (ok (pair k v (suc j) e)) ≡ hand k v j (suc j) e) → ((x e : ℕ) → said (ok (nothing x e)) ≡ moving NOTHING x e) → ((x : ℕ) → said (ok (done x)) ≡ moving WALK-DONE x 0) → OwesStep M m f hand a b (said (stepping M m a b))
   unfolding stepping need step unrefused
-  step_owed said a b hand z p q r = rw s.sound_table.sized (by-eq b 0
+  step_owed said a b hand z p q r = rw s.sound_table.sized (by_eq b 0
       (λ e t. no_budget e (rw (step_three t) (z 3)))
-      (λ e t. by-lt (M.size m) a
+      (λ e t. by_lt (M.size m) a
       (λ l u. beyond (omega arith) l (rw (step_four t l) (z 4)))
       (λ l u. go (omega arith) (step (M.size m) (M.slots m) 0 a b) refl (step_going (M.size m) (M.slots m) a b s.sound_table.sound.whole (omega arith) l))))
     where
@@ -264,9 +264,9 @@ module _ {K W : Type 0} (M : Store K W) (m : M.State) (f : Finite K W) (hand : K
   paces_once (hands j k v c d e g h i u) (no_budget r t) = absurd (omega arith)
   paces_once (hands j k v c d e g h i u) (beyond r t w) = absurd (omega arith)
   paces_once (hands j k v c d e g h i u) (ended r t w) = absurd (omega arith)
-  paces_once (hands j k v c d e g h i u) (hands j' k' v' c' d' e' g' h' i' u') = by-lt j j'
+  paces_once (hands j k v c d e g h i u) (hands j' k' v' c' d' e' g' h' i' u') = by_lt j j'
       (λ l x. absurd (i' j k v c l g))
-      (λ l x. by-lt j' j (λ l' x'. absurd (i j' k' v' c' l' g'))
+      (λ l x. by_lt j' j (λ l' x'. absurd (i j' k' v' c' l' g'))
       (λ l' x'. let z : j ≡ j' = omega arith in let y : live k v ≡ live k' v' = sym g ∙ ap (λ y. M.slots m y) z ∙ g' in let p : k ≡ k' = cc in let q : v ≡ v' = cc in u ∙ rw (z, p, q) (sym u')))
   paces_once (hands j k v c d e g h i u) (passes x p q r t) = absurd (r j k v c (omega arith) g)
   paces_once (passes x p q r t) (no_budget c d) = absurd (omega arith)

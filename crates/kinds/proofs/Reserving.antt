@@ -13,7 +13,7 @@ use Rattle.model.specs.Store.{Store, live_count, used}
 use Rattle.model.specs.Calls.{Or, no, ok, need, Seen, found, absent, Spot, occupied, vacant, get, entry, after_insert, any_damage, reserve}
 use Rattle.model.specs.Demand1.{AnyDamage}
 use Rattle.model.specs.Lawful.{Lawful, Shows}
-use Rattle.model.proofs.Cases.{by_bool, by-same, clash}
+use Rattle.model.proofs.Cases.{by_bool, by_same, clash}
 use Rattle.model.proofs.Demand1.{ruined_is}
 use Rattle.model.proofs.Exact.{len_high, used_high, reserve_is}
 use Rattle.model.proofs.Finite.{some_is}
@@ -104,7 +104,7 @@ module _ {K W : Type 0} (M : Store K W) (P : Published M) (Q : KeyCalls M P) (T 
 -- a key of the rest is another than the first, and so is still absent
 still_absent : {K W : Type 0} (M : Store K W) (f : Finite K W) (k : K) (v : W) (ks : List K) → member M.keys k ks ≡ false → (a : K) → member M.keys a ks ≡ true → f.look a ≡ none → (insert-in M.keys f k v).look a ≡ none
 unfolding insert-in
-still_absent M f k v ks n a y h = by-same M.keys a k
+still_absent M f k v ks n a y h = by_same M.keys a k
     (λ q e. let z : ◌≡◌ {A = Bool} true false = sym y ∙ ap (λ b. member M.keys b ks) q ∙ n in clash cc)
     (λ e. rw e h)
 

@@ -8,7 +8,7 @@ use borrow.Author.Tests.{lt-ltb, le-ltb}
 use lib.Dec.{ltb}
 use Rattle.model.specs.Slots.{Keys}
 use Rattle.model.specs.Path as path
-use Rattle.model.proofs.Cases.{by_bool, by-lt}
+use Rattle.model.proofs.Cases.{by_bool, by_lt}
 use Rattle.model.proofs.Path.{at_below, probe_find}
 use Rattle.answers.specs.declared.Refusal.TheVariants as refusal
 use Rattle.kinds.specs.declared.Sight.TheVariants.{Never, Freed, Damaged, Same, Other}
@@ -29,21 +29,21 @@ module _ (S h : ℕ) (inside : h < S) where
 
   at_next : (n : ℕ) → n < S → next_slot S (path.at S h n) ≡ path.at S h (suc n)
   unfolding path.at next_slot
-  at_next n l = by-lt (h + n) S
-      (λ a e. rw e (by-lt (h + n + 1) S
+  at_next n l = by_lt (h + n) S
+      (λ a e. rw e (by_lt (h + n + 1) S
       (λ b d. rw (d, lt-ltb (h + suc n) S (omega arith)) (omega arith))
       (λ b d. rw (d, le-ltb (h + suc n) S (omega arith)) (omega arith))))
       (λ a e. rw (e, lt-ltb (h + n - S + 1) S (omega arith), le-ltb (h + suc n) S (omega arith)) (omega arith))
 
   free_end : (f e : ℕ) → ended S (slot_free S h f) e ≡ along {W = Unit {0}} S h (path.miss e f)
   unfolding slot_free ended along
-  free_end f e = by-lt f S
+  free_end f e = by_lt f S
       (λ l q. rw (q, lt-ltb (path.at S h f) S (at_below S h f inside l)))
       (λ l q. rw (q, le-ltb S S (omega arith)))
 
   free_first : (f n : ℕ) → n < S → first_free S (slot_free S h f) (path.at S h n) ≡ slot_free S h (path.first_free S f n)
   unfolding slot_free first_free path.first_free
-  free_first f n l = by-lt f S
+  free_first f n l = by_lt f S
       (λ a q. rw (q, q, lt-ltb (path.at S h f) S (at_below S h f inside a)))
       (λ a q. rw (q, le-ltb S S (omega arith), lt-ltb n S l))
 
@@ -73,7 +73,7 @@ module _ (S h : ℕ) (inside : h < S) where
 
 next_below : (S slot : ℕ) → slot < S → next_slot S slot < S
 unfolding next_slot
-next_below S slot l = by-lt (slot + 1) S (λ a e. rw e a) (λ a e. rw e (omega arith))
+next_below S slot l = by_lt (slot + 1) S (λ a e. rw e a) (λ a e. rw e (omega arith))
 
 module _ {K : Type 0} (E : Keys K) (mark : ℕ → ℕ) (key : ℕ → K) where
   -- after one slot more

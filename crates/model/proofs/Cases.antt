@@ -17,16 +17,16 @@ by_bool true yes-case no-case = yes-case refl
 by_bool false yes-case no-case = no-case refl
 
 -- a < b or b ≤ a, each with its test
-pub by-lt {ℓ} : {A : Type ℓ} (a b : ℕ) → (a < b → ltb a b ≡ true → A) → (b ≤ a → ltb a b ≡ false → A) → A
-by-lt a b below above = by_bool (ltb a b) (λ e. below (ltb-true a b e) e) (λ e. above (ltb-false a b e) e)
+pub by_lt {ℓ} : {A : Type ℓ} (a b : ℕ) → (a < b → ltb a b ≡ true → A) → (b ≤ a → ltb a b ≡ false → A) → A
+by_lt a b below above = by_bool (ltb a b) (λ e. below (ltb-true a b e) e) (λ e. above (ltb-false a b e) e)
 
 -- a ≡ b or not, each with its test
-pub by-eq {ℓ} : {A : Type ℓ} (a b : ℕ) → (a ≡ b → eqb a b ≡ true → A) → ((a ≡ b → ⊥) → eqb a b ≡ false → A) → A
-by-eq a b equal apart = by_bool (eqb a b) (λ e. equal (eqb-true a b e) e) (λ e. apart (eqb-false a b e) e)
+pub by_eq {ℓ} : {A : Type ℓ} (a b : ℕ) → (a ≡ b → eqb a b ≡ true → A) → ((a ≡ b → ⊥) → eqb a b ≡ false → A) → A
+by_eq a b equal apart = by_bool (eqb a b) (λ e. equal (eqb-true a b e) e) (λ e. apart (eqb-false a b e) e)
 
 -- a is the key k or not, each with its test
-pub by-same {ℓ} : {A : Type ℓ} {K : Type 0} (E : Keys K) (a k : K) → (a ≡ k → E.same a k ≡ true → A) → (E.same a k ≡ false → A) → A
-by-same E a k equal apart = by_bool (E.same a k) (λ e. equal (E.right a k e) e) apart
+pub by_same {ℓ} : {A : Type ℓ} {K : Type 0} (E : Keys K) (a k : K) → (a ≡ k → E.same a k ≡ true → A) → (E.same a k ≡ false → A) → A
+by_same E a k equal apart = by_bool (E.same a k) (λ e. equal (E.right a k e) e) apart
 
 -- Two tests that pass together pass each.
 pub both : (a b : Bool) → (a && b) ≡ true → (a ≡ true) × (b ≡ true)

@@ -6,7 +6,7 @@ use mathlib.Core.Option.{none, some}
 use Rattle.model.specs.Slots.{Slot, never, freed, damaged, live, Table, Keys, put, frees, holds, value_in, look}
 use Rattle.model.specs.Path.{at, free_at}
 use Rattle.model.specs.Sound.{SoundSlots}
-use Rattle.model.proofs.Cases.{by-same, clash}
+use Rattle.model.proofs.Cases.{by_same, clash}
 use Rattle.model.proofs.Slots.{put_same, by_put, lacks, value_lacks, look_none}
 use Rattle.model.proofs.Path.{at_below, free_here}
 use Rattle.model.proofs.Sound.{sound_look, fresh_sound, replaced_sound}
@@ -35,7 +35,7 @@ module _ {K W : Type 0} (E : Keys K) where
   -- a freed slot takes its key out of the map, where each live key stands once
   pub removed_look : (S : ℕ) (t : Table K W) → ((i j : ℕ) (k : K) (v w : W) → i < S → j < S → t i ≡ live k v → t j ≡ live k w → i ≡ j) → (k : K) (i : ℕ) (w : W) → i < S → t i ≡ live k w → (a : K) → look E (put t i freed) S a ≡ cond (E.same a k) none (look E t S a)
   unfolding holds
-  removed_look S t once k i w l e a = by-same E a k
+  removed_look S t once k i w l e a = by_same E a k
       (λ q p. rw (p, q) (look_none E k (put t i freed) S (λ j b. by_put t i freed j
       (λ x r. rw r)
       (λ x r. rw r (lacks E k (t j) (λ y c. x (once j i k y w b l c e)))))))
@@ -45,11 +45,11 @@ module _ {K W : Type 0} (E : Keys K) where
     pub fresh_look : (v : W) → look E t S k ≡ none → free_at S (home k) t < S → (a : K) → look E (put t (at S (home k) (free_at S (home k) t)) (live k v)) S a ≡ cond (E.same a k) (some v) (look E t S a)
     fresh_look v e l a =
         let i : ℕ = at S (home k) (free_at S (home k) t) in
-        by-same E a k
+        by_same E a k
         (λ q p. rw (p, q) (sound_look E S home homes (put t i (live k v)) (fresh_sound E S home homes t o k v e l) k i v (at_below S (home k) (free_at S (home k) t) (homes k) l) (put_same t i (live k v))))
         (λ p. rw p (look_other a t i (live k v) S (live_lacks k a (live k v) v refl p) (frees_lacks a (t i) (free_here S (home k) t l))))
 
     pub replaced_look : (i : ℕ) (v w : W) → i < S → t i ≡ live k w → (a : K) → look E (put t i (live k v)) S a ≡ cond (E.same a k) (some v) (look E t S a)
-    replaced_look i v w l e a = by-same E a k
+    replaced_look i v w l e a = by_same E a k
         (λ q p. rw (p, q) (sound_look E S home homes (put t i (live k v)) (replaced_sound E S home homes t o k i v w l e) k i v l (put_same t i (live k v))))
         (λ p. rw p (look_other a t i (live k v) S (live_lacks k a (live k v) v refl p) (live_lacks k a (t i) w e p)))

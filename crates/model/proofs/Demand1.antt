@@ -16,7 +16,7 @@ use Rattle.model.specs.Calls.{Or, no, ok, need, pass, give, Spot, occupied, vaca
 use Rattle.model.specs.Walk.{halts, halted, reach_of, step_within, pace, step}
 use Rattle.model.specs.Machine.{Own, makes, clears, capacities, lens, empties, reserves, gets, contains_keys, removes, entries, inserts, puts, occupied_gets, occupied_removes, occupied_sets, vacant_inserts, or_inserts, insert_entries, Call, own, copies, unions, steps, Answer, fine, number, truth, seen, spot, value, stepped, report, World, tells, stepping, answer}
 use Rattle.model.specs.Demand1.{Row, row, First, none_applies, applies_here, goes_on, refusal, number_in, DamagedOnPath, Absent, DamagedSomewhere, AnyDamage, sized_rows, count_rows, reserve_rows, look_rows, remove_rows, place_rows, put_rows, grip_rows, drop_rows, open_rows, step_rows, copy_rows, union_rows, rows}
-use Rattle.model.proofs.Cases.{by_bool, by-lt, by-eq, by-same, clash}
+use Rattle.model.proofs.Cases.{by_bool, by_lt, by_eq, by_same, clash}
 use Rattle.model.proofs.Slots.{damaged_where, damaged_bad}
 use Rattle.model.proofs.Path.{from_low, from_before, from_here, Ended, find_ended, ended_hit, ended_never, ended_round, ended_bad, examined_stop, miss_free}
 use Rattle.model.proofs.Walk.{reach_high, reach_budget}
@@ -128,7 +128,7 @@ module _ {K W : Type 0} (S : ℕ) (t : Table K W) (a b : ℕ) where
   unfolding reach_of
   first_halt d =
       let r : d.0 < a + reach_of S a b = by_bool (leb b (S - a)) (λ e. rw e d.3) (λ e. rw e (omega (arith, d.1, d.2))) in
-      by-lt d.0 (from (λ i. halts (t i)) (reach_of S a b) a)
+      by_lt d.0 (from (λ i. halts (t i)) (reach_of S a b) a)
       (λ l x. let c : ◌≡◌ {A = Bool} true false = sym (halts_bad d.0 d.4) ∙ from_before (λ i. halts (t i)) (reach_of S a b) a d.0 d.1 l in clash cc)
       (λ l x. (l, omega arith))
 
@@ -137,15 +137,15 @@ module _ {K W : Type 0} (S : ℕ) (t : Table K W) (a b : ℕ) where
   first_halted j never e h lo hi before q = clash cc
   first_halted j freed e h lo hi before q = clash cc
   first_halted j damaged e h lo hi before q = here (j, lo, omega (arith, reach_high S a b), omega (arith, reach_budget S a b), e, λ i k v x y p. not_between t i k v p (before i x y))
-  first_halted j (live k v) e h lo hi before q = on (λ d. by-lt j d.0
+  first_halted j (live k v) e h lo hi before q = on (λ d. by_lt j d.0
       (λ l x. d.5 j k v lo l e)
       (λ l x. let r : j ≡ d.0 = omega (arith, q d) in apart (live k v) damaged e (ap t r ∙ d.4) λ c. clash cc)) none_applies
 
   first_pace : First (row 5 Passed ∷ []) (number_in (pace S t a b))
   unfolding pace step_within number_in
-  first_pace = by-eq a S
+  first_pace = by_eq a S
       (λ q x. rw x (on (λ d. omega (arith, d.1, d.2)) none_applies))
-      (λ q x. rw x (by-lt (from (λ i. halts (t i)) (reach_of S a b) a) (a + reach_of S a b)
+      (λ q x. rw x (by_lt (from (λ i. halts (t i)) (reach_of S a b) a) (a + reach_of S a b)
       (λ l y. rw y (first_halted (from (λ i. halts (t i)) (reach_of S a b) a) (t (from (λ i. halts (t i)) (reach_of S a b) a)) refl
       (from_here (λ i. halts (t i)) (reach_of S a b) a l) (from_low (λ i. halts (t i)) (reach_of S a b) a) l (λ i u v. from_before (λ i. halts (t i)) (reach_of S a b) a i u v) (λ d. (first_halt d).0)))
       (λ l y. rw y (on (λ d. omega (arith, (first_halt d).1)) none_applies))))
@@ -177,7 +177,7 @@ module _ {K W : Type 0} (M : Store K W) (homes : (m : M.State) (k : K) → M.siz
       go : PathSays M m k → First (row 5 (DamagedOnPath M m k) ∷ row 7 (Absent M m k × (live_count M m ≡ M.size m)) ∷ row 8 (Absent M m k × (M.bytes m - used M m < M.weight k)) ∷ []) (number_in (spot_by M m k (path M m k)))
       go (told_hit n v p b a) = rw p (on b (on (λ x. a x.0) (on (λ x. a x.0) none_applies)))
       go (told_miss e f p b a) = rw p (on b
-          (by-lt f (M.size m)
+          (by_lt f (M.size m)
           (λ l x. rw x (on (λ y. omega (arith, miss_free M.keys (M.size m) (M.home m k) (M.slots m) k e f p, full_no_free M.keys (M.size m) (M.home m k) (homes m k z) (M.slots m) k y.1))
           (by_bool (leb (M.weight k) (M.bytes m - used M m))
           (λ y. rw y (on (λ w. omega (arith, w.1, leb-true (M.weight k) (M.bytes m - used M m) y)) none_applies))
@@ -187,7 +187,7 @@ module _ {K W : Type 0} (M : Store K W) (homes : (m : M.State) (k : K) → M.siz
 
   first_grip : (s : ℕ) (k : K) → First (row 5 ((s < M.size m) × (M.slots m s ≡ damaged)) ∷ row 6 ((v : W) → s < M.size m → M.slots m s ≡ live k v → ⊥) ∷ []) (number_in (held_at M m s k))
   unfolding held_at held_on number_in need
-  first_grip s k = by-lt s (M.size m)
+  first_grip s k = by_lt s (M.size m)
       (λ l x. rw x (go (M.slots m s) refl l))
       (λ l x. rw x (on (λ y. omega (arith, y.0)) (here (λ v c e. omega arith))))
     where
@@ -196,7 +196,7 @@ module _ {K W : Type 0} (M : Store K W) (homes : (m : M.State) (k : K) → M.siz
       go freed e l = on (λ y. apart freed damaged e y.1 λ q. clash cc) (here (λ v c q. apart freed (live k v) e q λ q. clash cc))
       go damaged e l = here (l, e)
       go (live a w) e l = on (λ y. apart (live a w) damaged e y.1 λ q. clash cc)
-          (by-same M.keys k a
+          (by_same M.keys k a
           (λ q x. rw x (on (λ h. h w l (e ∙ ap (λ y. live y w) (sym q))) none_applies))
           (λ x. rw x (here (λ v c q.
           let r : live a w ≡ live k v = sym e ∙ q in
@@ -220,7 +220,7 @@ module _ {K W : Type 0} (M : Store K W) (homes : (m : M.State) (k : K) → M.siz
   unfolding good_for number_in need
   first_good s k b (no n) q h = rw (ne_eqb n 5 (λ c. h (ap (λ i. no i) c))) (on b (here (λ e p. apart (no n) (ok (vacant s e)) q p λ c. clash cc)))
   first_good s k b (ok (occupied x w y)) q h = on b (here (λ e p. apart (ok (occupied x w y)) (ok (vacant s e)) q p λ c. clash cc))
-  first_good s k b (ok (vacant x y)) q h = on b (by-eq s x
+  first_good s k b (ok (vacant x y)) q h = on b (by_eq s x
       (λ c t. rw t (on (λ g. g y (q ∙ ap (λ i. ok (vacant i y)) (sym c))) none_applies))
       (λ c t. rw t (here (λ e p. apart (ok (vacant x y)) (ok (vacant s e)) q p λ d. c (cc)))))
 

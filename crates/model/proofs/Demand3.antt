@@ -13,7 +13,7 @@ use Rattle.model.specs.Finite.{is_some}
 use Rattle.model.specs.Calls.{Or, no, ok, need, pass}
 use Rattle.model.specs.Walk.{StepAnswer, pair, halts, halted, reach_of, step_within, pace, step, moved_by}
 use Rattle.model.specs.Demand3.{Machine, steps, calls, hands_out, unrefused, look_in, Run, has, state_after, walk_after, good, times, stays, lasts, Walked, LawfulMachine}
-use Rattle.model.proofs.Cases.{by_bool, by-lt, by-eq, by-same, both, clash}
+use Rattle.model.proofs.Cases.{by_bool, by_lt, by_eq, by_same, both, clash}
 use Rattle.model.proofs.Slots.{look_some}
 use Rattle.model.proofs.Finite.{some_is}
 use Rattle.model.proofs.Sound.{once_look}
@@ -33,7 +33,7 @@ past_none i w l = rw (le-ltb i w l)
 
 -- a slot on one side of both is passed by both or by none
 past_same : (i w x : ℕ) → (i < w → i < x) → (w ≤ i → x ≤ i) → 0 + past i w ≡ past i x
-past_same i w x a b = by-lt i w (λ l e. omega (arith, past_one i w l, past_one i x (a l))) (λ l e. omega (arith, past_none i w l, past_none i x (b l)))
+past_same i w x a b = by_lt i w (λ l e. omega (arith, past_one i w l, past_one i x (a l))) (λ l e. omega (arith, past_none i w l, past_none i x (b l)))
 
 halts_live : {K W : Type 0} (s : Slot K W) (k : K) (v : W) → s ≡ live k v → halts s ≡ true
 unfolding halts
@@ -50,19 +50,19 @@ module _ {K W : Type 0} (E : Keys K) (S : ℕ) (t : Table K W) (once : (i j : �
   step_past bar w b i k v l e = go (step S t bar w b) refl
     where
       told : (a : StepAnswer K W) → Strode S t w b a → hands_out E k (ok a) + past i w ≡ past i (moved_by w (ok a))
-      told a (strode_pair j k' v' lo hi u q none_between r) = rw r (by-same E k k'
+      told a (strode_pair j k' v' lo hi u q none_between r) = rw r (by_same E k k'
           (λ s x. let d : i ≡ j = once i j k v v' l hi e (q ∙ ap (λ y. live y v') (sym s)) in
           rw x (omega (arith, past_none i w (omega arith), past_one i (suc j) (omega arith))))
           (λ x. rw x (past_same i w (suc j) (λ y. omega arith)
-          (λ y. by-lt i j
+          (λ y. by_lt i j
           (λ z o. absurd (not_between t i k v e (none_between i y z)))
-          (λ z o. by-eq i j
+          (λ z o. by_eq i j
           (λ d p. let m : live k v ≡ live k' v' = sym e ∙ ap t d ∙ q in
           let c : k ≡ k' = cc in
           let f : true ≡ false = sym (E.self k) ∙ ap (λ a. E.same k a) c ∙ x in
           clash cc)
           (λ d p. omega arith))))))
-      told a (strode_nothing x lo hi u none_between r) = rw r (past_same i w x (λ y. omega arith) (λ y. by-lt i x (λ z o. absurd (not_between t i k v e (none_between i y z))) (λ z o. z)))
+      told a (strode_nothing x lo hi u none_between r) = rw r (past_same i w x (λ y. omega arith) (λ y. by_lt i x (λ z o. absurd (not_between t i k v e (none_between i y z))) (λ z o. z)))
       told a (strode_done q r) = rw (r, q) (omega arith)
 
       go : (a : Or (StepAnswer K W)) → step S t bar w b ≡ a → hands_out E k a + past i w ≡ past i (moved_by w a)
@@ -114,7 +114,7 @@ module _ {K W : Type 0} (S : ℕ) (t : Table K W) where
   pub step_going : (w b : ℕ) → ((i : ℕ) → i < S → t i ≡ damaged → ⊥) → 0 < b → w ≤ S → unrefused (step S t 0 w b) ≡ 1
   unfolding step pace step_within need pass unrefused
   step_going w b whole l h = rw (ne_eqb b 0 (omega arith), le-leb w S h) (by_bool (eqb w S) (λ e. rw e)
-      (λ e. rw e (by-lt (from (λ i. halts (t i)) (reach_of S w b) w) (w + reach_of S w b)
+      (λ e. rw e (by_lt (from (λ i. halts (t i)) (reach_of S w b) w) (w + reach_of S w b)
       (λ c p. rw p (halted_unrefused w (from (λ i. halts (t i)) (reach_of S w b) w) (t (from (λ i. halts (t i)) (reach_of S w b) w)) (whole (from (λ i. halts (t i)) (reach_of S w b) w) (omega (arith, reach_high S w b)))))
       (λ c p. rw p))))
 

@@ -13,7 +13,7 @@ use Rattle.model.specs.Store.{Store, path, slot_at, path_length, live_count, use
 use Rattle.model.specs.Calls.{Or, no, ok, need, Seen, found, absent, Spot, occupied, vacant, seen_by, spot_by, capacity, length, any_damage, reserve, held_on, held_at}
 use Rattle.model.specs.Demand2.{grown, holds_now}
 use Rattle.model.specs.Lawful.{Lawful, Shows}
-use Rattle.model.proofs.Cases.{by_bool, by-lt, by-same}
+use Rattle.model.proofs.Cases.{by_bool, by_lt, by_same}
 use Rattle.model.proofs.Path.{hit_examined}
 use Rattle.model.proofs.Sound.{sound_look}
 use Rattle.model.proofs.Slots.{count_high}
@@ -82,24 +82,24 @@ module _ {K W : Type 0} (M : Store K W) (L : Lawful M) (m : M.State) (f : Finite
     where
       go : PathOf M L m f s k → spot_by M m k (path M m k) ≡ need (leb (mass (λ a. 1) (grown M f k)) (M.size m)) 7 (need (leb (mass M.weight (grown M f k)) (M.bytes m)) 8 (ok (spot_for M m k (f.look k))))
       go (here n v p e l q) = let z : suc n - 1 ≡ n = omega arith in rw (p, e, le-leb (mass (λ k. 1) f.dom) (M.size m) len_high, le-leb (mass M.weight f.dom) (M.bytes m) used_high, hit_length k n v p, z)
-      go (gone p e) = by-lt (free_at (M.size m) (M.home m k) (M.slots m)) (M.size m)
+      go (gone p e) = by_lt (free_at (M.size m) (M.home m k) (M.slots m)) (M.size m)
           (λ l x. let c : 1 + mass (λ k. 1) f.dom ≤ M.size m = omega (arith, free_room M L m f s k e l, live_len) in
           by_bool (leb (M.weight k) (M.bytes m - used M m))
           (λ y. rw (p, e, x, y, le-leb (1 + mass (λ k. 1) f.dom) (M.size m) c, le-leb (M.weight k + mass M.weight f.dom) (M.bytes m) (omega (arith, leb-true (M.weight k) (M.bytes m - used M m) y, used_mass, used_high))))
           (λ y. rw (p, e, x, y, le-leb (1 + mass (λ k. 1) f.dom) (M.size m) c, lt-leb (M.weight k + mass M.weight f.dom) (M.bytes m) (omega (arith, leb-false (M.weight k) (M.bytes m - used M m) y, used_mass, used_high)))))
-          (λ l x. by-lt (live_count M m) (M.size m)
+          (λ l x. by_lt (live_count M m) (M.size m)
           (λ c y. let z : ⊥ = omega (arith, room_free M L m f s k p c) in absurd z)
           (λ c y. rw (p, e, x, lt-leb (1 + mass (λ k. 1) f.dom) (M.size m) (omega (arith, live_len)))))
 
   pub grip_is : (i : ℕ) (k : K) → held_at M m i k ≡ cond (holds_now M m i k) (held_for (f.look k)) (no 6)
   unfolding held_at holds_now need held_on holds held_for
-  grip_is i k = by-lt i (M.size m) (λ l x. rw x (go l (M.slots m i) refl)) (λ l x. rw x)
+  grip_is i k = by_lt i (M.size m) (λ l x. rw x (go l (M.slots m i) refl)) (λ l x. rw x)
     where
       go : (l : i < M.size m) (c : Slot K W) → M.slots m i ≡ c → held_on M k c ≡ cond (holds M.keys k c) (held_for (f.look k)) (no 6)
       go l never e = refl
       go l freed e = refl
       go l damaged e = absurd (s.sound_table.sound.whole i l e)
-      go l (live a v) e = by-same M.keys k a
+      go l (live a v) e = by_same M.keys k a
           (λ q x. let p : f.look k ≡ some v = sym (s.looks k) ∙ sound_look M.keys (M.size m) (M.home m) (home_below M L m s.sound_table) (M.slots m) s.sound_table.sound k i v l (e ∙ ap (λ y. live y v) (sym q)) in rw (x, p))
           (λ x. rw x)
 

@@ -7,7 +7,7 @@ use mathlib.Core.Option.{Option, none, some}
 use native.Mathlib.Omega.{arith}
 use Rattle.model.specs.Slots.{Slot, never, freed, damaged, live, Table, Keys, put, weigh, total, look}
 use Rattle.model.specs.Finite.{Finite, is_some, or_else, contains, member, Once, once_none, once_more, Proper, mass, select, empty, insert, remove, union_prefer_right}
-use Rattle.model.proofs.Cases.{by_bool, by-same, clash}
+use Rattle.model.proofs.Cases.{by_bool, by_same, clash}
 use Rattle.model.proofs.Slots.{by_put, holds_live, look_some, look_gone, total_put}
 use Rattle.model.proofs.Change.{removed_look}
 
@@ -16,10 +16,10 @@ module _ {K : Type 0} (E : Keys K) where
   unfolding member select
   member_select p k [] = by_bool (p k) (λ e. rw e) (λ e. rw e)
   member_select p k (a ∷ ks) = by_bool (p a)
-      (λ e. rw e (by-same E k a
+      (λ e. rw e (by_same E k a
       (λ q x. rw (x, q, e))
       (λ x. rw x (member_select p k ks))))
-      (λ e. rw e (by-same E k a
+      (λ e. rw e (by_same E k a
       (λ q x. rw (member_select p k ks, x, q, e))
       (λ x. rw x (member_select p k ks))))
 
@@ -72,18 +72,18 @@ module _ {K : Type 0} (E : Keys K) where
     unfolding insert contains member is_some
     insert_proper f k v p = by_bool (is_some (f.look k))
         (λ e. record {
-          listed = λ a. rw e (by-same E a k (λ q x. rw x (p.listed a ∙ (rw (q, e)))) (λ x. rw x (p.listed a)));
+          listed = λ a. rw e (by_same E a k (λ q x. rw x (p.listed a ∙ (rw (q, e)))) (λ x. rw x (p.listed a)));
           once = rw e p.once;
         })
         (λ e. record {
-          listed = λ a. rw e (by-same E a k (λ q x. rw x) (λ x. rw x (p.listed a)));
+          listed = λ a. rw e (by_same E a k (λ q x. rw x) (λ x. rw x (p.listed a)));
           once = rw e (once_more (p.listed k ∙ e) p.once);
         })
 
     pub remove_proper : (f : Finite K W) (k : K) → Proper E f → Proper E (remove E f k)
     unfolding remove contains is_some
     remove_proper f k p = record {
-      listed = λ a. member_select (λ x. not (E.same x k)) a f.dom ∙ by-same E a k (λ q x. rw x) (λ x. rw x (p.listed a));
+      listed = λ a. member_select (λ x. not (E.same x k)) a f.dom ∙ by_same E a k (λ q x. rw x) (λ x. rw x (p.listed a));
       once = once_select (λ x. not (E.same x k)) f.dom p.once;
     }
 
@@ -143,7 +143,7 @@ module _ {K W : Type 0} (g : K → ℕ) where
   total_mass E S (k ∷ ks) t once (once_more m o) h =
       let (v, p) = some_is E (look E t S k) (sym (h k) ∙ (rw (E.self k))) in
       let (i, l, q) = look_some E k t S v p in
-      let r = total_mass E S ks (put t i freed) (once_put i once) o (λ a. by-same E a k
+      let r = total_mass E S ks (put t i freed) (once_put i once) o (λ a. by_same E a k
       (λ x e. rw (removed_look E S t once k i v l q a, e, x) m)
       (λ e. rw (removed_look E S t once k i v l q a, e) (rw e at (h a)))) in
       omega (arith, r, total_put g t i freed S l, ap (λ s. weigh g s) q)

@@ -14,7 +14,7 @@ use Rattle.model.specs.Calls.{Or, no, ok}
 use Rattle.model.specs.Walk.{StepAnswer, halts, step, moved_by}
 use Rattle.model.specs.Demand3.{Machine, pair_from, look_in, has, walk_after, times, handed, stays, lasts, Walked, LawfulMachine}
 use Rattle.model.specs.Iterated.{only_steps, seconds, Iterated}
-use Rattle.model.proofs.Cases.{by-lt, clash}
+use Rattle.model.proofs.Cases.{by_lt, clash}
 use Rattle.model.proofs.Slots.{look_some}
 use Rattle.model.proofs.Sound.{once_look}
 use Rattle.model.proofs.Walk.{Strode, strode_pair, strode_nothing, strode_done, strode}
@@ -32,7 +32,7 @@ module _ {K W : Type 0} where
   pairs_gap : (t : Table K W) (w j : ℕ) → w ≤ j → ((i : ℕ) → w ≤ i → i < j → halts (t i) ≡ false) → pairs t j ≡ pairs t w
   unfolding pairs
   pairs_gap t w zero l h = let e : w ≡ 0 = omega arith in rw e
-  pairs_gap t w (suc j) l h = by-lt w (suc j)
+  pairs_gap t w (suc j) l h = by_lt w (suc j)
       (λ c x. rw (idle_pair (t j) (h j (omega arith) (omega arith))) (append-nil (pairs t j) ∙ pairs_gap t w j (omega arith) (λ i a b. h i a (omega arith))))
       (λ c x. let e : w ≡ suc j = omega arith in rw e)
 
@@ -99,12 +99,13 @@ module _ {K W : Type 0} where
   slot_pair : (t : Table K W) (n i : ℕ) (k : K) (v : W) → i < n → t i ≡ live k v → Memᴰ (k, v) (pairs t n)
   unfolding pairs
   slot_pair t zero i k v l e = let z : ⊥ = omega arith in absurd z
-  slot_pair t (suc n) i k v l e = by-lt i n
+  slot_pair t (suc n) i k v l e = by_lt i n
       (λ c x. Memᴰ.append_left (pair_of (t n)) (slot_pair t n i k v c e))
       (λ c x. let q : i ≡ n = omega arith in Memᴰ.append_right (pairs t n) (rw (live_pair (t n) k v (rw q at e)) (Memᴰ.head refl)))
 
   second_of : (k : K) (v : W) (ps : List (K × W)) → Memᴰ (k, v) ps → Memᴰ v (seconds ps)
   unfolding seconds
+  second_of k v [] m = absurd (Memᴰ.not-nil m)
   second_of k v (p ∷ ps) (Memᴰ.head e) = Memᴰ.head (ap (λ x. x.1) e)
   second_of k v (p ∷ ps) (Memᴰ.tail m) = Memᴰ.tail (second_of k v ps m)
 

@@ -13,7 +13,7 @@ use Rattle.model.specs.Calls
 use Rattle.model.specs.Machine.{Own, makes, clears, capacities, lens, empties, reserves, gets, contains_keys, removes, entries, inserts, puts, occupied_gets, occupied_removes, occupied_sets, vacant_inserts, or_inserts, insert_entries, Answer, fine, seen, spot, value, report, tells, leaves}
 use Rattle.model.specs.Demand2.{refuses, grows, renews}
 use Rattle.model.specs.Lawful.{Lawful, Shows}
-use Rattle.model.proofs.Cases.{by-same}
+use Rattle.model.proofs.Cases.{by_same}
 use Rattle.model.proofs.Path.{miss_free, hit_at, at_below}
 use Rattle.model.proofs.Sound.{sound_gone}
 use Rattle.model.proofs.Finite.{remove_proper}
@@ -109,7 +109,7 @@ module _ {K W : Type 0} (M : Store K W) where
             rw q (shows_free M L m f s (slot_at M m k n) k w l c)
         go (ok (absent x)) e =
             let (y, p) = seen_absent M m k x (remove_seen M m k (absent x) e) in
-            shows_same f (remove M.keys f k) s (λ a. by-same M.keys a k (λ q t. rw (t, q) (path_gone k x y p)) (λ t. rw t)) (remove_proper M.keys f k s.proper)
+            shows_same f (remove M.keys f k) s (λ a. by_same M.keys a k (λ q t. rw (t, q) (path_gone k x y p)) (λ t. rw t)) (remove_proper M.keys f k s.proper)
 
     pub set_shows : (i : ℕ) (k : K) (v w : W) → occupied_get M m i k ≡ ok w → Shows M (M.over m i v) (insert M.keys f k v)
     set_shows i k v w e = let (l, c) = grip_live M m k i w (occupied_grip M m k i w e) in shows_over M L m f s i k v w l c

@@ -22,7 +22,7 @@ use Rattle.model.specs.Demand1.{Row, row, First, none_applies, applies_here, goe
 use Rattle.model.specs.Demand2.{refuses, renews, EntryOf, is_occupied, is_vacant, is_full, is_tight}
 use Rattle.model.specs.Tables.{sweeps, Renewal}
 use Rattle.model.specs.Lawful.{Lawful, SoundTable, Shows}
-use Rattle.model.proofs.Cases.{by_bool, by-lt, by-eq, clash}
+use Rattle.model.proofs.Cases.{by_bool, by_lt, by_eq, clash}
 use Rattle.model.proofs.Slots.{put_same, damaged_bad}
 use Rattle.model.proofs.Path.{at_below, hurt_at, hit_at, hit_examined, miss_examined, examined_low, examined_high, free_before, free_here, free_high}
 use Rattle.model.proofs.Sound.{sound_look, no_free_full, full_no_free}
@@ -260,7 +260,7 @@ module _ {K W : Type 0} (M : Store K W) where
       (need_no (M.sized m) 1 (pass (M.kept k) (need (not (M.damaged_fully m)) 5 (good_for M s (spot_by M m k (path M m k))))) n q)
     where
       small : (r : Or (Spot W)) → good_for M s r ≡ no n → n ≤ 6
-      small (no i) t = by-eq i 5
+      small (no i) t = by_eq i 5
           (λ c x. let z : ◌≡◌ {A = Or (Unit {0})} (no 5) (no n) = rw x at t in let y : n ≡ 5 = cc in omega arith)
           (λ c x. let z : ◌≡◌ {A = Or (Unit {0})} (no 6) (no n) = rw x at t in let y : n ≡ 6 = cc in omega arith)
       small (ok (occupied x w e)) t = let y : n ≡ 6 = cc in omega arith
@@ -469,7 +469,7 @@ module _ {K W : Type 0} (M : Store K W) (L : Lawful M) (m : M.State) (f : Finite
 
       go : PathOf M L m f s k → EntryOf M m f k
       go (here n v p e l q) = is_occupied (slot_at M m k n) v e q (told ∙ rw p (ap (λ x. ok (occupied (slot_at M m k n) v x)) (sym (hit_examined M.keys (M.size m) (M.home m k) (M.slots m) k n v p))))
-      go (gone p e) = by-lt (free_at (M.size m) (M.home m k) (M.slots m)) (M.size m)
+      go (gone p e) = by_lt (free_at (M.size m) (M.home m k) (M.slots m)) (M.size m)
           (λ l x. let c : len f < M.size m = omega (arith, free_room M L m f s k e l, live_len M L m f s) in
           by_bool (leb (M.weight k) (M.bytes m - used M m))
           (λ b. is_vacant (slot_at M m k (free_at (M.size m) (M.home m k) (M.slots m))) e c (omega (arith, leb-true (M.weight k) (M.bytes m - used M m) b, used_mass M L m f s, used_high M L m f s)) (told ∙ rw (p, x, b)))

@@ -9,7 +9,7 @@ use borrow.Author.Tests.{lt-ltb, le-ltb}
 use lib.Dec.{ltb}
 use Rattle.model.specs.Slots.{Slot, never, freed, damaged, live, Table, Keys, frees}
 use Rattle.model.specs.Path.{from, at, stops, Find, hit, miss, damage, ends, stop_at, free_at, find, first_free, on_slot, probe, examined}
-use Rattle.model.proofs.Cases.{by_bool, by-lt, clash}
+use Rattle.model.proofs.Cases.{by_bool, by_lt, clash}
 
 pub from_low : (f : ℕ → Bool) (g n : ℕ) → n ≤ from f g n
 unfolding from
@@ -26,7 +26,7 @@ unfolding from
 from_before f zero n m l h = let z : ⊥ = omega arith in absurd z
 from_before f (suc g) n m l h = by_bool (f n)
     (λ e. let z : ⊥ = omega (arith, rw e at h) in absurd z)
-    (λ e. by-lt n m (λ l' x. from_before f g (suc n) m l' (rw e at h)) (λ l' x. let q : m ≡ n = omega arith in rw q e))
+    (λ e. by_lt n m (λ l' x. from_before f g (suc n) m l' (rw e at h)) (λ l' x. let q : m ≡ n = omega arith in rw q e))
 
 pub from_here : (f : ℕ → Bool) (g n : ℕ) → from f g n < n + g → f (from f g n) ≡ true
 unfolding from
@@ -37,8 +37,8 @@ pub from_unique : (f : ℕ → Bool) (g n r : ℕ) → n ≤ r → r ≤ n + g �
 unfolding from
 from_unique f zero n r l u b h = omega arith
 from_unique f (suc g) n r l u b h = by_bool (f n)
-    (λ e. rw e (by-lt n r (λ l' x. let z : ◌≡◌ {A = Bool} true false = sym e ∙ b n (omega arith) l' in cc) (λ l' x. omega arith)))
-    (λ e. rw e (by-lt n r
+    (λ e. rw e (by_lt n r (λ l' x. let z : ◌≡◌ {A = Bool} true false = sym e ∙ b n (omega arith) l' in cc) (λ l' x. omega arith)))
+    (λ e. rw e (by_lt n r
     (λ l' x. from_unique f g (suc n) r l' (omega arith) (λ m a c. b m (omega arith) c) (λ c. h (omega arith)))
     (λ l' x. let q : r ≡ n = omega arith in let z : ◌≡◌ {A = Bool} true false = sym (h (omega arith)) ∙ (rw q e) in cc)))
 
@@ -48,23 +48,23 @@ place S h i = cond (ltb i h) (i + S - h) (i - h)
 
 pub at_below : (S h n : ℕ) → h < S → n < S → at S h n < S
 unfolding at
-at_below S h n a b = by-lt (h + n) S (λ l e. rw e l) (λ l e. rw e (omega arith))
+at_below S h n a b = by_lt (h + n) S (λ l e. rw e l) (λ l e. rw e (omega arith))
 
 pub at_once : (S h n m : ℕ) → h < S → n < S → m < S → at S h n ≡ at S h m → n ≡ m
 unfolding at
-at_once S h n m a b c q = by-lt (h + n) S
-    (λ l e. by-lt (h + m) S (λ l' e'. omega (arith, rw (e, e') at q)) (λ l' e'. omega (arith, rw (e, e') at q)))
-    (λ l e. by-lt (h + m) S (λ l' e'. omega (arith, rw (e, e') at q)) (λ l' e'. omega (arith, rw (e, e') at q)))
+at_once S h n m a b c q = by_lt (h + n) S
+    (λ l e. by_lt (h + m) S (λ l' e'. omega (arith, rw (e, e') at q)) (λ l' e'. omega (arith, rw (e, e') at q)))
+    (λ l e. by_lt (h + m) S (λ l' e'. omega (arith, rw (e, e') at q)) (λ l' e'. omega (arith, rw (e, e') at q)))
 
 pub place_below : (S h i : ℕ) → h < S → i < S → place S h i < S
 unfolding place
-place_below S h i a b = by-lt i h (λ l e. rw e (omega arith)) (λ l e. rw e (omega arith))
+place_below S h i a b = by_lt i h (λ l e. rw e (omega arith)) (λ l e. rw e (omega arith))
 
 pub at_place : (S h i : ℕ) → h < S → i < S → at S h (place S h i) ≡ i
 unfolding place at
-at_place S h i a b = by-lt i h
-    (λ l e. rw e (by-lt (h + (i + S - h)) S (λ l' e'. rw e' (omega arith)) (λ l' e'. rw e' (omega arith))))
-    (λ l e. rw e (by-lt (h + (i - h)) S (λ l' e'. rw e' (omega arith)) (λ l' e'. rw e' (omega arith))))
+at_place S h i a b = by_lt i h
+    (λ l e. rw e (by_lt (h + (i + S - h)) S (λ l' e'. rw e' (omega arith)) (λ l' e'. rw e' (omega arith))))
+    (λ l e. rw e (by_lt (h + (i - h)) S (λ l' e'. rw e' (omega arith)) (λ l' e'. rw e' (omega arith))))
 
 -- at a slot that stops the path and is no hit, or is one
 data Stopped {K W : Type 0} (E : Keys K) (k : K) (s : Slot K W) : Type 0 where
@@ -105,7 +105,7 @@ module _ {K W : Type 0} (E : Keys K) (S h : ℕ) (t : Table K W) (k : K) where
 
   pub find_ended : Ended (find E S h t k)
   unfolding find ends
-  find_ended = by-lt (stop_at E S h t k) S
+  find_ended = by_lt (stop_at E S h t k) S
       (λ l e. rw e (go l (t (at S h (stop_at E S h t k))) refl (stopped E k _ (stop_here l))))
       (λ l e. rw e (ended_round (omega (arith, stop_high))))
     where
@@ -154,18 +154,18 @@ module _ {K W : Type 0} (E : Keys K) (S h : ℕ) (t : Table K W) (k : K) where
   miss_round e f q u = go e f u (subst Ended q find_ended)
     where
       go : (e f : ℕ) → S ≤ f → Ended (miss e f) → stop_at E S h t k ≡ S
-      go e f u (ended_never n x l p) = by-lt n (free_at S h t)
+      go e f u (ended_never n x l p) = by_lt n (free_at S h t)
           (λ c y. let z : ◌≡◌ {A = Bool} true false = sym (ap frees p) ∙ from_before (λ m. frees (t (at S h m))) S 0 n (omega arith) c in cc)
           (λ c y. let z : ⊥ = omega arith in absurd z)
       go e f u (ended_round x) = x
 
   pub examined_low : 0 < S → 0 < examined E S h t k
   unfolding examined
-  examined_low l = by-lt (stop_at E S h t k) S (λ x e. rw e (omega arith)) (λ x e. rw e l)
+  examined_low l = by_lt (stop_at E S h t k) S (λ x e. rw e (omega arith)) (λ x e. rw e l)
 
   pub examined_high : examined E S h t k ≤ S
   unfolding examined
-  examined_high = by-lt (stop_at E S h t k) S (λ x e. rw e x) (λ x e. rw e (omega arith))
+  examined_high = by_lt (stop_at E S h t k) S (λ x e. rw e x) (λ x e. rw e (omega arith))
 
   -- a key n places from home, with nothing before it that ends the path, is found there
   pub find_hit : (n : ℕ) (v : W) → n < S → t (at S h n) ≡ live k v → ((m : ℕ) → m < n → stops E k (t (at S h m)) ≡ false) → find E S h t k ≡ hit n v
@@ -195,8 +195,8 @@ module _ {K W : Type 0} (E : Keys K) (S h : ℕ) (t : Table K W) (k : K) where
   -- an examined slot that stops the path is where it ended
   pub examined_stop : (j : ℕ) → j < examined E S h t k → stops E k (t (at S h j)) ≡ true → (j ≡ stop_at E S h t k) × (stop_at E S h t k < S)
   unfolding examined
-  examined_stop j l e = by-lt (stop_at E S h t k) S
-      (λ c x. by-lt j (stop_at E S h t k)
+  examined_stop j l e = by_lt (stop_at E S h t k) S
+      (λ c x. by_lt j (stop_at E S h t k)
       (λ d y. let z : ◌≡◌ {A = Bool} true false = sym e ∙ stop_before j d in clash cc)
       (λ d y. (omega (arith, rw x at l), c)))
       (λ c x. let z : ◌≡◌ {A = Bool} true false = sym e ∙ stop_before j (omega (arith, rw x at l)) in clash cc)
@@ -226,7 +226,7 @@ pub data Sofar {K W : Type 0} (S h : ℕ) (t : Table K W) (n f : ℕ) : Type 0 w
 module _ {K W : Type 0} (E : Keys K) (S h : ℕ) (t : Table K W) (k : K) where
   -- what holds below n and at n holds below suc n
   upto : {P : ℕ → Type 0} (n : ℕ) → ((m : ℕ) → m < n → P m) → P n → (m : ℕ) → m < suc n → P m
-  upto {P} n b p m l = by-lt m n (λ l' x. b m l') (λ l' x. let q : m ≡ n = omega arith in subst (λ j. P j) (sym q) p)
+  upto {P} n b p m l = by_lt m n (λ l' x. b m l') (λ l' x. let q : m ≡ n = omega arith in subst (λ j. P j) (sym q) p)
 
   sofar_end : (n f : ℕ) → n ≤ S → Sofar S h t n f → frees (t (at S h n)) ≡ true → n < S → first_free S f n ≡ free_at S h t
   unfolding first_free

@@ -6,7 +6,7 @@ use mathlib.Core.Path.{◌≡◌, refl, sym, ◌∙◌, ap}
 use native.Mathlib.Omega.{arith}
 use borrow.Author.Tests.{lt-ltb}
 use lib.Dec.{eqb}
-use Rattle.model.proofs.Cases.{by-eq, neither, clash}
+use Rattle.model.proofs.Cases.{by_eq, neither, clash}
 use Rattle.model.specs.Slots.{pairs}
 use Rattle.model.specs.Path.{Find, hit, miss, damage}
 use Rattle.model.specs.Store.{Store, path, slot_at}
@@ -148,7 +148,7 @@ unfolding run run_names turned placed
 run_named M P A T [] w y p d = refl
 run_named M P A T (c ∷ cs) w y p d =
     let (a, b) = neither (eqb y c.0 && names M P p w c.0 c.1) (run_names M P p y (turned M w c.0 c.1) cs) d in
-    run_named M P A T cs (turned M w c.0 c.1) y p b ∙ by-eq y c.0
+    run_named M P A T cs (turned M w c.0 c.1) y p b ∙ by_eq y c.0
     (λ r t. rw t (only_named M P A T w c.0 c.1 p (rw t at a) ∙ ap (λ z. P.word (w z) p) (sym r)))
     (λ r t. rw t)
 

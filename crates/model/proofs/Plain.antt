@@ -9,7 +9,7 @@ use Rattle.model.specs.Finite.{mass, len, empty}
 use Rattle.model.specs.Calls.{ok, need, found, get, after_insert, acted, capacity, after_make}
 use Rattle.model.specs.Lawful.{Wrote, Lawful, Shows}
 use Rattle.model.specs.Plain.{Plain, revalued, reslotted, plain}
-use Rattle.model.proofs.Cases.{by-lt, clash}
+use Rattle.model.proofs.Cases.{by_lt, clash}
 use Rattle.model.proofs.Slots.{total_put}
 use Rattle.model.proofs.Finite.{total_dead}
 use Rattle.model.specs.Demand2.{EntryOf, is_occupied, is_vacant, is_full, is_tight}
@@ -32,7 +32,7 @@ module _ {K W : Type 0} (E : Keys K) (weight : K → ℕ) where
   pub plain_lawful : Lawful (plain {W = W} E weight)
   unfolding used frees weigh revalued made reslotted
   plain_lawful = record {
-    homes = λ m k e. by-lt (m.home k) m.size (λ l x. rw x l) (λ l x. rw x (ltb-true 0 m.size e));
+    homes = λ m k e. by_lt (m.home k) m.size (λ l x. rw x l) (λ l x. rw x (ltb-true 0 m.size e));
     unharmed = λ m e g s. le-ltb m.bytes (total weight m.slots m.size) g;
     within = λ m e g. g;
     over_wrote = λ m i k v w e g l q. rw q (wrote m (put m.slots i (live k v)) (omega (arith, total_put weight m.slots i (live k v) m.size l, ap (λ s. weigh weight s) q)));

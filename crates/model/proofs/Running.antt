@@ -13,7 +13,7 @@ use Rattle.model.specs.Store.{Store, path, slot_at, live_count, used, damaged_sl
 use Rattle.model.specs.Calls.{ok, need, Spot, occupied, vacant, spot_by, rule_by, rule, missed, lacking, needs, any_damage, union}
 use Rattle.model.specs.Lawful.{Wrote, Steady}
 use Rattle.model.specs.Running.{Running, Roomy}
-use Rattle.model.proofs.Cases.{by_bool, by-lt, by-eq, by-same, clash}
+use Rattle.model.proofs.Cases.{by_bool, by_lt, by_eq, by_same, clash}
 use Rattle.model.proofs.Slots.{put_same, put_other, by_put, total_put, damaged_not, damaged_bad, count_high}
 use Rattle.model.proofs.Path.{place, place_below, at_place, at_once, at_below, stop_before, Ended, ended_hit, find_ended, hit_at, hurt_at, find_hit, free_here}
 use Rattle.model.proofs.Sound.{no_free_full}
@@ -42,15 +42,15 @@ module _ {K W : Type 0} (E : Keys K) (S h : ℕ) (t : Table K W) where
     found_stays a n w q =
         let (l, p) = hit_at E S h t a n w q in
         let j = place S h i in
-        by-same E a k
-        (λ e s. by-lt j n
+        by_same E a k
+        (λ e s. by_lt j n
         (λ d x. (
           j,
           v,
           find_hit E S h (put t i (live k v)) a j v (place_below S h i inside below) (rw (new_place, e))
               (λ m c. rw (kept_place a m (omega arith) (λ z. let y : ⊥ = omega arith in absurd y)) (hit_before a n w q m (omega arith))),
         ))
-        (λ d x. by-eq n j
+        (λ d x. by_eq n j
         (λ c y. (
           n,
           v,
@@ -68,7 +68,7 @@ module _ {K W : Type 0} (E : Keys K) (S h : ℕ) (t : Table K W) where
           w,
           find_hit E S h (put t i (live k v)) a n w l
               (kept_place a n l (λ z. let y : E.same a k ≡ true = rw (own a w ((ap t (sym (ap (λ x. at S h x) z ∙ at_place S h i inside below))) ∙ p)) (E.self k) in clash (cc)) ∙ p)
-              (λ m c. by-eq m j
+              (λ m c. by_eq m j
               (λ z y. rw (z, new_place) s)
               (λ z y. rw (kept_place a m (omega arith) z) (hit_before a n w q m c))),
         ))
@@ -136,7 +136,7 @@ module _ {K W : Type 0} (M : Store K W) where
     -- an absent key finds a slot
     pub slot_left : (e f : ℕ) → path M m k ≡ miss e f → f < M.size m
     unfolding lacking missed live_count mass firsts path
-    slot_left e f q = by-lt f (M.size m) (λ l x. l) (λ l x.
+    slot_left e f q = by_lt f (M.size m) (λ l x. l) (λ l x.
         let c : lacking M m k ≡ true = rw q in
         let full : live_count M m ≡ M.size m = no_free_full M.keys (M.size m) (M.home m k) (T.homes m k r.sized) (M.slots m) k e f q l in
         let z : ⊥ = omega (arith, r.slots_left, ap (λ y. cond {A = ℕ} y 1 0) c) in absurd z)

@@ -17,7 +17,7 @@ use Rattle.model.specs.Tables.{sweeps, Sure}
 use Rattle.model.specs.Lawful.{Lawful, Steady, Shows}
 use Rattle.model.specs.Running.{Roomy}
 use Rattle.model.specs.Runs.{put_all, run, Accepted, booked_all, drops, CopiesKnown}
-use Rattle.model.proofs.Cases.{by_bool, by-eq, neither, clash}
+use Rattle.model.proofs.Cases.{by_bool, by_eq, neither, clash}
 use Rattle.model.proofs.Finite.{some_is}
 use Rattle.model.proofs.Demand2.{next_known}
 use Rattle.model.proofs.Laws.{put_clear, put_by_rule}
@@ -46,7 +46,7 @@ module _ {A : Type 0} (w : ℕ → A) (x : ℕ) where
 
   pub placed_same : placed w x (w x) ≡ w
   unfolding placed
-  placed_same = fun_ext (λ y. by-eq y x (λ r e. rw e (ap w (sym r))) (λ r e. rw e))
+  placed_same = fun_ext (λ y. by_eq y x (λ r e. rw e (ap w (sym r))) (λ r e. rw e))
 
 module _ {K W : Type 0} (M : Store K W) where
   -- the book has the tables after the list
@@ -58,7 +58,7 @@ module _ {K W : Type 0} (M : Store K W) where
   -- a known table stays known after every call, but a copy onto it from a table that is not
   booked_known : (x : ℕ) (s : Book M) → is_some (s.maps x) ≡ true → (z : ℕ) (c : Call K W) → ((y : ℕ) → ◌≡◌ {A = ℕ × Call K W} (z, c) (x, copies y) → is_some (s.maps y) ≡ true) → is_some ((booked M s z c).maps x) ≡ true
   unfolding becomes placed
-  booked_known x s k z c h = by-eq x z
+  booked_known x s k z c h = by_eq x z
       (λ e t. rw t (subst (λ y. is_some (next M s.world s.maps y c) ≡ true) e (next_known M s.world s.maps x k c (λ y q. h y (λ i. (sym e i, q i))))))
       (λ e t. rw t k)
 

@@ -10,7 +10,7 @@ use Rattle.model.specs.Sound.{SoundSlots}
 use Rattle.model.specs.Finite.{Finite, is_some, contains, Proper, mass, empty, insert, remove}
 use Rattle.model.specs.Store.{Store, path, slot_at, path_length, live_count, used, damaged_slots}
 use Rattle.model.specs.Lawful.{Wrote, Lawful, SoundTable, Shows}
-use Rattle.model.proofs.Cases.{by-lt}
+use Rattle.model.proofs.Cases.{by_lt}
 use Rattle.model.proofs.Slots.{look_none, count_high, damaged_not}
 use Rattle.model.proofs.Path.{at_below, hit_at, free_here}
 use Rattle.model.proofs.Sound.{made_sound, sound_found, sound_miss, fresh_sound, replaced_sound, removed_sound, no_free_full, full_no_free}
@@ -95,13 +95,13 @@ module _ {K W : Type 0} (M : Store K W) (L : Lawful M) where
     -- an absent key has a free slot on its path exactly when some slot is not live
     pub free_room : (k : K) → f.look k ≡ none → free_at (M.size m) (M.home m k) (M.slots m) < M.size m → live_count M m < M.size m
     unfolding live_count
-    free_room k e l = by-lt (count (M.slots m) (M.size m)) (M.size m) (λ c x. c)
+    free_room k e l = by_lt (count (M.slots m) (M.size m)) (M.size m) (λ c x. c)
         (λ c x. let q = full_no_free M.keys (M.size m) (M.home m k) (home_below m s.sound_table k) (M.slots m) k (omega (arith, count_high (M.slots m) (M.size m))) in
         let z : ⊥ = omega arith in absurd z)
 
     pub room_free : (k : K) → path M m k ≡ miss (path_length M m k) (free_at (M.size m) (M.home m k) (M.slots m)) → live_count M m < M.size m → free_at (M.size m) (M.home m k) (M.slots m) < M.size m
     unfolding path live_count
-    room_free k q c = by-lt (free_at (M.size m) (M.home m k) (M.slots m)) (M.size m) (λ l x. l)
+    room_free k q c = by_lt (free_at (M.size m) (M.home m k) (M.slots m)) (M.size m) (λ l x. l)
         (λ l x. let e = no_free_full M.keys (M.size m) (M.home m k) (home_below m s.sound_table k) (M.slots m) k (path_length M m k) (free_at (M.size m) (M.home m k) (M.slots m)) q l in
         let z : ⊥ = omega arith in absurd z)
 

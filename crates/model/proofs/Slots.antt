@@ -7,7 +7,7 @@ use mathlib.Core.Logic.{◌⊎◌, inl, inr, ⊎_elim, ◌↔◌}
 use native.Mathlib.Omega.{arith}
 use borrow.Author.Tests.{eq-eqb, ne_eqb}
 use Rattle.model.specs.Slots.{Slot, never, freed, damaged, live, Table, Keys, put, frees, is_damaged, holds, weigh, total, count, any_damaged, value_in, look}
-use Rattle.model.proofs.Cases.{by_bool, by-lt, by-eq, clash}
+use Rattle.model.proofs.Cases.{by_bool, by_lt, by_eq, clash}
 
 module _ {K W : Type 0} (t : Table K W) (i : ℕ) (s : Slot K W) where
   pub put_same : put t i s i ≡ s
@@ -28,7 +28,7 @@ frees_is (live a v) = ((λ e. clash cc), (λ x. ⊎_elim (λ e. clash cc) (λ e.
 
 -- which slot a changed table has at j
 pub by_put : {K W : Type 0} {A : Type 0} (t : Table K W) (i : ℕ) (s : Slot K W) (j : ℕ) → (j ≡ i → put t i s j ≡ s → A) → ((j ≡ i → ⊥) → put t i s j ≡ t j → A) → A
-by_put t i s j here there = by-eq j i (λ q e. here q (rw q (put_same t i s))) (λ q e. there q (put_other t i s j q))
+by_put t i s j here there = by_eq j i (λ q e. here q (rw q (put_same t i s))) (λ q e. there q (put_other t i s j q))
 
 module _ {K W : Type 0} (E : Keys K) (k : K) where
   pub holds_live : (s : Slot K W) (v : W) → s ≡ live k v → holds E k s ≡ true
@@ -67,7 +67,7 @@ module _ {K W : Type 0} (E : Keys K) (k : K) where
     pub look_last : (n i : ℕ) (v : W) → i < n → t i ≡ live k v → ((j : ℕ) → i < j → j < n → holds E k (t j) ≡ false) → look E t n k ≡ some v
     unfolding look
     look_last zero i v l e h = let z : ⊥ = omega arith in absurd z
-    look_last (suc n) i v l e h = by-lt i n
+    look_last (suc n) i v l e h = by_lt i n
         (λ l' x. value_lacks (t n) (look E t n k) (h n l' (omega arith)) ∙ look_last n i v l' e (λ j a b. h j a (omega arith)))
         (λ l' x. let q : i ≡ n = omega arith in value_holds (t n) (look E t n k) v (rw q at e))
 
@@ -87,7 +87,7 @@ module _ {K W : Type 0} (E : Keys K) (k : K) where
         (λ p. let (w, q) = holds_value (t n) p in
         let r : some w ≡ none = sym (value_holds (t n) (look E t n k) w q) ∙ e in
         clash cc)
-        (λ p. by-lt i n (λ l' x. look_gone n i (sym (value_lacks (t n) (look E t n k) p) ∙ e) l') (λ l' x. let q : i ≡ n = omega arith in rw q p))
+        (λ p. by_lt i n (λ l' x. look_gone n i (sym (value_lacks (t n) (look E t n k) p) ∙ e) l') (λ l' x. let q : i ≡ n = omega arith in rw q p))
 
 module _ {K W : Type 0} (g : K → ℕ) where
   pub total_same : (t u : Table K W) (n : ℕ) → ((i : ℕ) → i < n → t i ≡ u i) → total g t n ≡ total g u n
@@ -99,7 +99,7 @@ module _ {K W : Type 0} (g : K → ℕ) where
   pub total_put : (t : Table K W) (i : ℕ) (s : Slot K W) (n : ℕ) → i < n → total g (put t i s) n + weigh g (t i) ≡ total g t n + weigh g s
   unfolding total
   total_put t i s zero l = let z : ⊥ = omega arith in absurd z
-  total_put t i s (suc n) l = by-lt i n
+  total_put t i s (suc n) l = by_lt i n
       (λ l' x. omega (arith, total_put t i s n l', ap (λ c. weigh g c) (put_other t i s n (omega arith))))
       (λ l' x. let q : i ≡ n = omega arith in
       let a : total g (put t i s) n ≡ total g t n = total_same (put t i s) t n (λ j b. put_other t i s j (omega arith)) in
@@ -131,7 +131,7 @@ module _ {K W : Type 0} where
   pub count_full : (t : Table K W) (n : ℕ) → count t n ≡ n → (i : ℕ) → i < n → (a : K) × (v : W) × (t i ≡ live a v)
   unfolding total
   count_full t zero e i l = let z : ⊥ = omega arith in absurd z
-  count_full t (suc n) e i l = by-lt i n
+  count_full t (suc n) e i l = by_lt i n
       (λ l' x. count_full t n (omega (arith, count_high t n, weigh_one (t n))) i l')
       (λ l' x. let q : i ≡ n = omega arith in rw q (live_weighs (t n) (omega (arith, count_high t n, weigh_one (t n)))))
 
@@ -160,7 +160,7 @@ module _ {K W : Type 0} where
   pub damaged_bad : (t : Table K W) (n i : ℕ) → i < n → t i ≡ damaged → any_damaged t n ≡ true
   unfolding any_damaged
   damaged_bad t zero i l e = let z : ⊥ = omega arith in absurd z
-  damaged_bad t (suc n) i l e = by-lt i n
+  damaged_bad t (suc n) i l e = by_lt i n
       (λ l' x. by_bool (is_damaged (t n)) (λ p. rw p) (λ p. rw p (damaged_bad t n i l' e)))
       (λ l' x. let q : i ≡ n = omega arith in rw (hurts_bad (t n) (rw q at e)))
 

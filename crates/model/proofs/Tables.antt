@@ -21,7 +21,7 @@ use Rattle.model.specs.Demand3.{look_in}
 use Rattle.model.proofs.Demand2.{left_shows}
 use Rattle.model.specs.Tables.{sweeps, Sure}
 use Rattle.model.specs.Lawful.{Lawful, SoundTable, Shows}
-use Rattle.model.proofs.Cases.{by_bool, by-eq, by-same, clash}
+use Rattle.model.proofs.Cases.{by_bool, by_eq, by_same, clash}
 use Rattle.model.proofs.Slots.{by_put, look_some}
 use Rattle.model.proofs.Pairs.{last_look, lacking_less}
 use Rattle.model.proofs.Finite.{once_append, some_is, insert_mass}
@@ -56,7 +56,7 @@ module _ {K W : Type 0} (E : Keys K) where
   pair_lacks k never h = refl
   pair_lacks k freed h = refl
   pair_lacks k damaged h = refl
-  pair_lacks k (live a v) h = by-same E k a (λ q e. absurd (h v (ap (λ x. live x v) (sym q)))) (λ e. rw e)
+  pair_lacks k (live a v) h = by_same E k a (λ q e. absurd (h v (ap (λ x. live x v) (sym q)))) (λ e. rw e)
 
   pair_once : (s : Slot K W) → Once E (firsts (pair_of s))
   unfolding firsts pair_of member
@@ -329,13 +329,13 @@ module _ {K W : Type 0} (M : Store K W) (L : Lawful M) where
   -- what demand 2 knows stays right, whatever the call
   pub booked_shows : (s : Book M) → ((y : ℕ) (f : Finite K W) → s.maps y ≡ some f → Shows M (s.world y) f) → (y : ℕ) (c : Call K W) → refuses (answer M s.world y c) ≡ false → (z : ℕ) (f : Finite K W) → (booked M s y c).maps z ≡ some f → Shows M ((booked M s y c).world z) f
   unfolding turned becomes placed
-  booked_shows s h y c o z f q = by-eq z y
+  booked_shows s h y c o z f q = by_eq z y
       (λ r t. rw t (left_shows M L s.world s.maps h y c f (rw o (rw t at q))))
       (λ r t. rw t (h z f (rw t at q)))
 
   pub turned_size : (w : World M) (y : ℕ) (c : Call K W) (x : ℕ) → M.size (turned M w y c x) ≡ M.size (w x)
   unfolding turned placed
-  turned_size w y c x = by-eq x y (λ r t. rw t (left_size w y c ∙ ap (λ z. M.size (w z)) (sym r))) (λ r t. rw t)
+  turned_size w y c x = by_eq x y (λ r t. rw t (left_size w y c ∙ ap (λ z. M.size (w z)) (sym r))) (λ r t. rw t)
 
   -- and so a table that is still known after a call is sound, of as many slots
   pub booked_sure : (x S : ℕ) (s : Book M) → Sure M x S s → (y : ℕ) (c : Call K W) → refuses (answer M s.world y c) ≡ false → is_some ((booked M s y c).maps x) ≡ true → Sure M x S (booked M s y c)
@@ -350,7 +350,7 @@ module _ {K W : Type 0} (M : Store K W) (L : Lawful M) where
   unfolding turned placed
   booked_stands x S s f y c o a e i k v u l p q =
       let g : Sure M x S (booked M s y c) = booked_sure x S s f y c o a in
-      let stood : (d : W) × (M.slots ((booked M s y c).world x) i ≡ live k d) = by-eq x y
+      let stood : (d : W) × (M.slots ((booked M s y c).world x) i ≡ live k d) = by_eq x y
       (λ r t.
       let h : SoundTable M (s.world y) = subst (λ z. SoundTable M (s.world z)) r (sure_healthy x S s f) in
       let n : M.size (s.world y) ≡ S = ap (λ z. M.size (s.world z)) (sym r) ∙ f.sized in

@@ -9,7 +9,7 @@ use Rattle.model.specs.Slots.{Slot, never, freed, damaged, live, Table}
 use Rattle.model.specs.Path.{from}
 use Rattle.model.specs.Calls.{ok}
 use Rattle.model.specs.Walk.{StepAnswer, pair, nothing, done, halts, halted, reach_of, step_within, pace, step}
-use Rattle.model.proofs.Cases.{by_bool, by-lt, by-eq, clash}
+use Rattle.model.proofs.Cases.{by_bool, by_lt, by_eq, clash}
 use Rattle.model.proofs.Path.{from_low, from_before, from_here}
 use Rattle.model.proofs.Accepted.{need_ok, pass_ok}
 
@@ -28,10 +28,10 @@ pub reach_budget : (S w b : ℕ) → reach_of S w b ≤ b
 reach_budget S w b = omega (arith, reach_is S w b)
 
 budget_low : (b : ℕ) → not (eqb b 0) ≡ true → 0 < b
-budget_low b e = by-lt 0 b (λ l x. l) (λ l x. absurd (eqb-false b 0 (not-true (eqb b 0) e) (omega arith)))
+budget_low b e = by_lt 0 b (λ l x. l) (λ l x. absurd (eqb-false b 0 (not-true (eqb b 0) e) (omega arith)))
 
 by_below : {w S : ℕ} → w ≤ S → (w ≡ S → ⊥) → w < S
-by_below {w} {S} l q = by-lt w S (λ c x. c) (λ c x. absurd (q (omega arith)))
+by_below {w} {S} l q = by_lt w S (λ c x. c) (λ c x. absurd (q (omega arith)))
 
 module _ {K W : Type 0} (S : ℕ) (t : Table K W) (w : ℕ) where
   -- what an unrefused step found: a live slot and none before it; none within b slots or up to S; or the walk's end
@@ -52,7 +52,7 @@ module _ {K W : Type 0} (S : ℕ) (t : Table K W) (w : ℕ) where
   paced_to b a h l e =
       let lo = from_low (λ i. halts (t i)) (reach_of S w b) w in
       let hi = reach_high S w b in
-      by-lt (from (λ i. halts (t i)) (reach_of S w b) w) (w + reach_of S w b)
+      by_lt (from (λ i. halts (t i)) (reach_of S w b) w) (w + reach_of S w b)
       (λ c p.
       let (k, v, q, r) = halted_at (from (λ i. halts (t i)) (reach_of S w b) w) (t (from (λ i. halts (t i)) (reach_of S w b) w)) a (from_here (λ i. halts (t i)) (reach_of S w b) w c) (rw p at e) in
       strode_pair (from (λ i. halts (t i)) (reach_of S w b) w) k v lo (omega arith) (omega (arith, reach_budget S w b)) q (λ i x y. from_before (λ i. halts (t i)) (reach_of S w b) w i x y) r)
@@ -67,6 +67,6 @@ module _ {K W : Type 0} (S : ℕ) (t : Table K W) (w : ℕ) where
       let x = need_ok (not (eqb b 0)) 3 _ a e in
       let y = need_ok (leb w S) 4 _ a x.1 in
       let z = pass_ok bar _ a y.1 in
-      by-eq w S
+      by_eq w S
       (λ q p. let r : ok (done w) ≡ ok a = rw p at z.1 in strode_done q (cc))
       (λ q p. paced_to b a (budget_low b x.0) (by_below (leb-true w S y.0) q) (rw p at z.1))
