@@ -1,0 +1,16 @@
+-- `answers::added_numbers` meets its contract: each arm hands over what the definition says.
+use borrow.Author.Rules.{rules}
+use Rattle.answers.specs.Numbers.{added_numbers}
+use Rattle.answers.proofs.added_numbers.Goals as goal
+
+pub returns-in-Fresh : goal.returns-in-Fresh
+unfolding added_numbers
+returns-in-Fresh c = rw c.in-Fresh.is c.case_numbers.ensures
+
+pub returns-in-Already : goal.returns-in-Already
+unfolding added_numbers
+returns-in-Already c = rw c.in-Already.is c.case_numbers-in-Already.ensures
+
+pub returns-in-Refused : goal.returns-in-Refused
+unfolding added_numbers
+returns-in-Refused c = rw c.in-Refused.is c.refusal_numbers.ensures

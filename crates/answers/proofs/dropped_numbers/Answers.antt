@@ -1,0 +1,16 @@
+-- `answers::dropped_numbers` meets its contract: each arm hands over what the definition says.
+use borrow.Author.Rules.{rules}
+use Rattle.answers.specs.Numbers.{dropped_numbers}
+use Rattle.answers.proofs.dropped_numbers.Goals as goal
+
+pub returns-in-Removed : goal.returns-in-Removed
+unfolding dropped_numbers
+returns-in-Removed c = rw c.in-Removed.is c.case_numbers.ensures
+
+pub returns-in-Absent : goal.returns-in-Absent
+unfolding dropped_numbers
+returns-in-Absent c = rw c.in-Absent.is c.case_numbers-in-Absent.ensures
+
+pub returns-in-Refused : goal.returns-in-Refused
+unfolding dropped_numbers
+returns-in-Refused c = rw c.in-Refused.is c.refusal_numbers.ensures
