@@ -1,6 +1,6 @@
 -- The turns of the two digest loops: what is left, from the state after one byte, gives the same digest.
 -- Assumes nothing.
-use Rattle.std.proofs.Common.{◌≡◌, ℕ, suc, ◌+◌, ◌-◌, ◌/◌, ◌%◌, ◌<◌, ◌≤◌, List, length, get_or, drop, add-one, arith, drop_of_length-le, drop-cons}
+use Rattle.std.proofs.Common.{◌≡◌, ℕ, zero, suc, ◌+◌, ◌-◌, ◌/◌, ◌%◌, ◌<◌, ◌≤◌, List, length, get_or, drop, add-one, arith, drop_of_length-le, drop-cons}
 use Rattle.lists.specs.Bytes.{le}
 use Rattle.digest.specs.Digest.{mix_of, more_of}
 
@@ -19,6 +19,7 @@ byte_end bytes i h d l e = rw (drop_of_length-le bytes l) at e
 pub word_turn : (n x h r : ℕ) → 0 < n → r ≡ mix_of h (x % 256)
     → more_of r (le (n - 1) (x / 256)) ≡ more_of h (le n x)
 unfolding more_of le
+word_turn zero x h r l e = let z : ⊥ = omega arith in absurd z
 word_turn (suc n) x h r l e =
     let m : suc n - 1 ≡ n = omega arith in
     rw (m, e)

@@ -5,7 +5,6 @@ pub mod Bridge
 pub mod Columns
 pub mod Copying
 pub mod Counts
-pub mod LentWalks
 pub mod Moved
 pub mod Rooms
 pub mod Scanning
