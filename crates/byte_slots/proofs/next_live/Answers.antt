@@ -1,0 +1,26 @@
+-- `byte_slots::next_live` meets its contract. The loop's invariant: the rest of the stretch gives the whole answer. The measure is what is left of it.
+use borrow.Author.Rules.{rules}
+use Prim.Native.Nat.{◌-◌}
+use lib.ListN.{length}
+use Rattle.kinds.proofs.Scanning.{Ahead, ahead_start, ahead_live, ahead_bad, ahead_on_next, ahead_end}
+use Rattle.byte_slots.specs.Memory.{spans_of}
+use Rattle.byte_slots.specs.Marks.{mark_of}
+use Rattle.byte_slots.specs.Scanning.{nexting}
+use Rattle.byte_slots.proofs.Marks.{marks_beyond}
+use Rattle.byte_slots.proofs.next_live.Goals as goal
+
+pub loop-i-init : goal.loop-i-init
+unfolding nexting
+loop-i-init c = ahead_start _ _ _ _ (marks_beyond _)
+
+pub returns-then-here-eq1 : goal.returns-then-here-eq1
+returns-then-here-eq1 c = ahead_live c.loop-i.invariant c.loop-i-test.true c.mark_at-here.ensures c.if-here-eq1.true
+
+pub returns-then-here-gt2 : goal.returns-then-here-gt2
+returns-then-here-gt2 c = ahead_bad c.loop-i.invariant c.loop-i-test.true c.mark_at-here.ensures c.if-here-gt2.true
+
+pub loop-i-preserved : goal.loop-i-preserved
+loop-i-preserved c = ahead_on_next c.loop-i.invariant c.loop-i-test.true c.mark_at-here.ensures c.if-here-gt2.false c.if-here-eq1.false
+
+pub returns : goal.returns
+returns c = ahead_end c.loop-i.invariant c.loop-i-test.false

@@ -1,0 +1,12 @@
+-- `byte_slots::same_tail` meets its contract. The loop's invariant: equal so far. The measure is what is left of the length.
+use Prim.Native.Nat.{◌-◌}
+use lib.ListN.{length}
+use borrow.Author.Rules.{rules}
+use Rattle.byte_slots.proofs.Equal.{Alike, alike_start, alike_more, alike_not, alike_end}
+use Rattle.byte_slots.proofs.same_tail.Given as goal
+
+abbrev pub invariant-loop-i : goal.invariant-loop-i
+invariant-loop-i l = Alike l.a l.b l.i
+
+abbrev pub decreases-loop-i : goal.decreases-loop-i
+decreases-loop-i l = length l.a - l.i
