@@ -77,8 +77,8 @@ pub fn fill(
     used: usize,
     key: &[u8],
 )
-    requires { Fillable (spans_now marks offsets lengths arena) slot used key.now }
-    ensures { spans_after marks offsets lengths arena ≡ filled (spans_before marks offsets lengths arena) slot key.now }
+    requires { Fillable (spans_now marks.old offsets.old lengths.old arena.old) slot used key.now }
+    ensures { spans_after marks.new offsets.new lengths.new arena.new ≡ filled (spans_before marks.old offsets.old lengths.old arena.old) slot key.now }
 {
     paste(arena, used, key);
     marks[slot] = 1;
@@ -95,8 +95,8 @@ pub fn free(
     slot: usize,
     used: usize,
 )
-    requires { Freeable (spans_now marks offsets lengths arena) slot used }
-    ensures { spans_after marks offsets lengths arena ≡ emptied (spans_before marks offsets lengths arena) slot }
+    requires { Freeable (spans_now marks.old offsets.old lengths.old arena.old) slot used }
+    ensures { spans_after marks.new offsets.new lengths.new arena.new ≡ emptied (spans_before marks.old offsets.old lengths.old arena.old) slot }
 {
     let offset = offset_at(offsets, slot);
     let len = len_at(lengths, slot);
@@ -109,7 +109,7 @@ pub fn free(
 
 // All marks, offsets, lengths and arena bytes are to be 0.
 pub fn wipe(marks: &mut [u8], offsets: &mut [u16], lengths: &mut [u8], arena: &mut [u8])
-    ensures { spans_after marks offsets lengths arena ≡ wiped (spans_before marks offsets lengths arena) }
+    ensures { spans_after marks.new offsets.new lengths.new arena.new ≡ wiped (spans_before marks.old offsets.old lengths.old arena.old) }
 {
     clear_bytes(marks);
     clear_shorts(offsets);

@@ -21,7 +21,7 @@ pub fn make(
     values: &mut [u64],
     arena: &mut [u8],
 ) -> Outcome
-    ensures { told (outcome_numbers result) (after marks offsets lengths values arena) ≡ make_of maps (before marks offsets lengths values arena) }
+    ensures { told (outcome_numbers result) (after marks.new offsets.new lengths.new values.new arena.new) ≡ make_of maps (before marks.old offsets.old lengths.old values.old arena.old) }
 {
     if map_fits(marks, offsets, lengths, values, arena) {
         wipe(marks, offsets, lengths, arena);
@@ -40,7 +40,7 @@ pub fn clear(
     values: &mut [u64],
     arena: &mut [u8],
 ) -> Outcome
-    ensures { told (outcome_numbers result) (after marks offsets lengths values arena) ≡ make_of maps (before marks offsets lengths values arena) }
+    ensures { told (outcome_numbers result) (after marks.new offsets.new lengths.new values.new arena.new) ≡ make_of maps (before marks.old offsets.old lengths.old values.old arena.old) }
 {
     make(marks, offsets, lengths, values, arena)
 }
@@ -55,7 +55,7 @@ pub fn insert(
     key: &[u8],
     value: u64,
 ) -> Stored
-    ensures { told (stored_numbers result) (after marks offsets lengths values arena) ≡ insert_of (before marks offsets lengths values arena) key.now value }
+    ensures { told (stored_numbers result) (after marks.new offsets.new lengths.new values.new arena.new) ≡ insert_of (before marks.old offsets.old lengths.old values.old arena.old) key.now value }
 {
     let plan = map_plan_insert(marks, offsets, lengths, values, arena, key);
     match plan {
@@ -82,7 +82,7 @@ pub fn remove(
     arena: &mut [u8],
     key: &[u8],
 ) -> Removed
-    ensures { told (removed_numbers result) (after marks offsets lengths values arena) ≡ remove_of maps (before marks offsets lengths values arena) key.now }
+    ensures { told (removed_numbers result) (after marks.new offsets.new lengths.new values.new arena.new) ≡ remove_of maps (before marks.old offsets.old lengths.old values.old arena.old) key.now }
 {
     let plan = map_plan_remove(marks, offsets, lengths, values, arena, key);
     match plan {
@@ -110,7 +110,7 @@ pub fn copy(
     values: &[u64],
     arena: &[u8],
 ) -> Outcome
-    ensures { told (outcome_numbers result) (after to_marks to_offsets to_lengths to_values to_arena) ≡ copy_of maps (before to_marks to_offsets to_lengths to_values to_arena) (before marks offsets lengths values arena) }
+    ensures { told (outcome_numbers result) (after to_marks.new to_offsets.new to_lengths.new to_values.new to_arena.new) ≡ copy_of maps (before to_marks.old to_offsets.old to_lengths.old to_values.old to_arena.old) (before marks.now offsets.now lengths.now values.now arena.now) }
 {
     if to_arena.len() != arena.len() {
         return Outcome::Refused(Refusal::Sizes);

@@ -35,7 +35,7 @@ pub fn entry(
     arena: &[u8],
     key: &[u8],
 ) -> Entered
-    ensures { entered_numbers result ≡ entry_of maps (before marks offsets lengths values arena) key.now }
+    ensures { entered_numbers result ≡ entry_of maps (before marks.now offsets.now lengths.now values.now arena.now) key.now }
 {
     let plan = map_plan_insert(marks, offsets, lengths, values, arena, key);
     match plan {
@@ -71,7 +71,7 @@ impl Entered {
         key: &[u8],
         default: u64,
     ) -> InSlot
-        ensures { told (in_slot_numbers result) (after marks offsets lengths values arena) ≡ or_insert_of maps (before marks offsets lengths values arena) (handle_of (length marks.old) self) key.now default }
+        ensures { told (in_slot_numbers result) (after marks.new offsets.new lengths.new values.new arena.new) ≡ or_insert_of maps (before marks.old offsets.old lengths.old values.old arena.old) (handle_of (length marks.old) self) key.now default }
     {
         let Entered::Occupied(handle, _, _) = self else {
             return self
@@ -96,7 +96,7 @@ impl Entered {
         key: &[u8],
         value: u64,
     ) -> InSlot
-        ensures { told (in_slot_numbers result) (after marks offsets lengths values arena) ≡ insert_entry_of maps (before marks offsets lengths values arena) (handle_of (length marks.old) self) key.now value }
+        ensures { told (in_slot_numbers result) (after marks.new offsets.new lengths.new values.new arena.new) ≡ insert_entry_of maps (before marks.old offsets.old lengths.old values.old arena.old) (handle_of (length marks.old) self) key.now value }
     {
         let Entered::Occupied(handle, _, _) = self else {
             return self

@@ -71,7 +71,7 @@ fn value_in(
     key: &[u8],
 ) -> Held
     requires { (length offsets.now ≡ length marks.now) × (length lengths.now ≡ length marks.now) × (length values.now ≡ length marks.now) }
-    ensures { result ≡ value_in (before marks offsets lengths values arena) slot key.now }
+    ensures { result ≡ value_in (before marks.now offsets.now lengths.now values.now arena.now) slot key.now }
 {
     if slot < marks.len() {
         let sight = byte_slots::look(marks, offsets, lengths, arena, slot, key);
@@ -90,7 +90,7 @@ fn value_of(
     slot: usize,
     key: &[u8],
 ) -> Held
-    ensures { result ≡ value_for (before marks offsets lengths values arena) slot key.now }
+    ensures { result ≡ value_for (before marks.now offsets.now lengths.now values.now arena.now) slot key.now }
 {
     if map_fits(marks, offsets, lengths, values, arena) {
         if byte_slots::may_ask(key) {
@@ -121,7 +121,7 @@ fn plan_removal(
     slot: usize,
     key: &[u8],
 ) -> RemovalPlan
-    ensures { result ≡ planning_removal (before marks offsets lengths values arena) slot key.now }
+    ensures { result ≡ planning_removal (before marks.now offsets.now lengths.now values.now arena.now) slot key.now }
 {
     if map_fits(marks, offsets, lengths, values, arena) {
         if byte_slots::may_ask(key) {
@@ -150,7 +150,7 @@ impl Occupied {
         arena: &[u8],
         key: &[u8],
     ) -> Held
-        ensures { held_numbers result ≡ held_of maps (before marks offsets lengths values arena) self.slot key.now }
+        ensures { held_numbers result ≡ held_of maps (before marks.now offsets.now lengths.now values.now arena.now) self.slot key.now }
     {
         value_of(marks, offsets, lengths, values, arena, self.slot, key)
     }
@@ -166,7 +166,7 @@ impl Occupied {
         key: &[u8],
         value: u64,
     ) -> Swapped
-        ensures { told (swapped_numbers result) (after marks offsets lengths values arena) ≡ set_of maps (before marks offsets lengths values arena) self.slot key.now value }
+        ensures { told (swapped_numbers result) (after marks.new offsets.new lengths.new values.new arena.new) ≡ set_of maps (before marks.old offsets.old lengths.old values.old arena.old) self.slot key.now value }
     {
         let slot = self.slot;
         let held = value_of(marks, offsets, lengths, values, arena, slot, key);
@@ -189,7 +189,7 @@ impl Occupied {
         arena: &mut [u8],
         key: &[u8],
     ) -> Taken
-        ensures { told (taken_numbers result) (after marks offsets lengths values arena) ≡ taken_of maps (before marks offsets lengths values arena) self.slot key.now }
+        ensures { told (taken_numbers result) (after marks.new offsets.new lengths.new values.new arena.new) ≡ taken_of maps (before marks.old offsets.old lengths.old values.old arena.old) self.slot key.now }
     {
         let slot = self.slot;
         let plan = plan_removal(marks, offsets, lengths, values, arena, slot, key);
@@ -213,7 +213,7 @@ impl Occupied {
         arena: &mut [u8],
         key: &[u8],
     ) -> Taken
-        ensures { told (taken_numbers result) (after marks offsets lengths values arena) ≡ taken_of maps (before marks offsets lengths values arena) self.slot key.now }
+        ensures { told (taken_numbers result) (after marks.new offsets.new lengths.new values.new arena.new) ≡ taken_of maps (before marks.old offsets.old lengths.old values.old arena.old) self.slot key.now }
     {
         self.remove(marks, offsets, lengths, values, arena, key)
     }

@@ -19,7 +19,7 @@ pub fn capacity(
     values: &[u64],
     arena: &[u8],
 ) -> Counted
-    ensures { counted_numbers result ≡ capacity_of maps (before marks offsets lengths values arena) }
+    ensures { counted_numbers result ≡ capacity_of maps (before marks.now offsets.now lengths.now values.now arena.now) }
 {
     if marks.len() == values.len() {
         return byte_set_reads::capacity(marks, offsets, lengths, arena);
@@ -29,7 +29,7 @@ pub fn capacity(
 
 // The number of keys.
 pub fn len(marks: &[u8], offsets: &[u16], lengths: &[u8], values: &[u64], arena: &[u8]) -> Counted
-    ensures { counted_numbers result ≡ len_of maps (before marks offsets lengths values arena) }
+    ensures { counted_numbers result ≡ len_of maps (before marks.now offsets.now lengths.now values.now arena.now) }
 {
     if marks.len() == values.len() {
         return byte_set_reads::len(marks, offsets, lengths, arena);
@@ -45,7 +45,7 @@ pub fn is_empty(
     values: &[u64],
     arena: &[u8],
 ) -> Emptiness
-    ensures { emptiness_numbers result ≡ is_empty_of maps (before marks offsets lengths values arena) }
+    ensures { emptiness_numbers result ≡ is_empty_of maps (before marks.now offsets.now lengths.now values.now arena.now) }
 {
     if marks.len() == values.len() {
         return byte_set_reads::is_empty(marks, offsets, lengths, arena);
@@ -63,7 +63,7 @@ pub fn reserve(
     keys: u64,
     bytes: u64,
 ) -> Reserved
-    ensures { reserved_numbers result ≡ reserve_of maps (before marks offsets lengths values arena) keys bytes }
+    ensures { reserved_numbers result ≡ reserve_of maps (before marks.now offsets.now lengths.now values.now arena.now) keys bytes }
 {
     if marks.len() == values.len() {
         return byte_set_reads::reserve(marks, offsets, lengths, arena, keys, bytes);
@@ -80,7 +80,7 @@ pub fn get(
     arena: &[u8],
     key: &[u8],
 ) -> Got
-    ensures { got_numbers result ≡ get_of maps (before marks offsets lengths values arena) key.now }
+    ensures { got_numbers result ≡ get_of maps (before marks.now offsets.now lengths.now values.now arena.now) key.now }
 {
     let seen = map_probe(marks, offsets, lengths, values, arena, key);
     match seen {
@@ -100,7 +100,7 @@ pub fn contains_key(
     arena: &[u8],
     key: &[u8],
 ) -> Contained
-    ensures { contained_numbers result ≡ contains_of maps (before marks offsets lengths values arena) key.now }
+    ensures { contained_numbers result ≡ contains_of maps (before marks.now offsets.now lengths.now values.now arena.now) key.now }
 {
     if marks.len() == values.len() {
         return byte_set_reads::contains(marks, offsets, lengths, arena, key);

@@ -63,8 +63,8 @@ fn slot_needs(
     right_arena: &[u8],
     i: usize,
 ) -> Needed
-    requires { (fitting (spans_now marks offsets lengths arena) ≡ true) × (fitting (spans_now right_marks right_offsets right_lengths right_arena) ≡ true) × (i < length right_marks.now) }
-    ensures { (result ≡ slot_needs (spans_before marks offsets lengths arena) (spans_before right_marks right_offsets right_lengths right_arena) i) × (result.slots ≤ 1) × (result.bytes ≤ key_limit) }
+    requires { (fitting (spans_now marks.now offsets.now lengths.now arena.now) ≡ true) × (fitting (spans_now right_marks.now right_offsets.now right_lengths.now right_arena.now) ≡ true) × (i < length right_marks.now) }
+    ensures { (result ≡ slot_needs (spans_before marks.now offsets.now lengths.now arena.now) (spans_before right_marks.now right_offsets.now right_lengths.now right_arena.now) i) × (result.slots ≤ 1) × (result.bytes ≤ key_limit) }
 {
     if mark_at(right_marks, right_offsets, right_lengths, right_arena, i) == 1 {
         let key = key_at(right_offsets, right_lengths, right_arena, i);
@@ -84,8 +84,8 @@ fn table_needs(
     right_lengths: &[u8],
     right_arena: &[u8],
 ) -> Needed
-    requires { (fitting (spans_now marks offsets lengths arena) ≡ true) × (fitting (spans_now right_marks right_offsets right_lengths right_arena) ≡ true) }
-    ensures { result ≡ table_needs (spans_before marks offsets lengths arena) (spans_before right_marks right_offsets right_lengths right_arena) (length right_marks.now) }
+    requires { (fitting (spans_now marks.now offsets.now lengths.now arena.now) ≡ true) × (fitting (spans_now right_marks.now right_offsets.now right_lengths.now right_arena.now) ≡ true) }
+    ensures { result ≡ table_needs (spans_before marks.now offsets.now lengths.now arena.now) (spans_before right_marks.now right_offsets.now right_lengths.now right_arena.now) (length right_marks.now) }
 {
     let mut slots = 0;
     let mut bytes = 0;
@@ -120,8 +120,8 @@ fn room(
     right_lengths: &[u8],
     right_arena: &[u8],
 ) -> Planned
-    requires { (fitting (spans_now marks offsets lengths arena) ≡ true) × (fitting (spans_now right_marks right_offsets right_lengths right_arena) ≡ true) }
-    ensures { planned result ≡ room_of (spans_before marks offsets lengths arena) (spans_before right_marks right_offsets right_lengths right_arena) }
+    requires { (fitting (spans_now marks.now offsets.now lengths.now arena.now) ≡ true) × (fitting (spans_now right_marks.now right_offsets.now right_lengths.now right_arena.now) ≡ true) }
+    ensures { planned result ≡ room_of (spans_before marks.now offsets.now lengths.now arena.now) (spans_before right_marks.now right_offsets.now right_lengths.now right_arena.now) }
 {
     let found = survey(marks, offsets, lengths, arena);
     let Surveyed::Used(used) = found else {
@@ -163,7 +163,7 @@ fn plan(
     right_values: &[u64],
     right_arena: &[u8],
 ) -> Planned
-    ensures { planned result ≡ plan_of (before marks offsets lengths values arena) (before right_marks right_offsets right_lengths right_values right_arena) }
+    ensures { planned result ≡ plan_of (before marks.now offsets.now lengths.now values.now arena.now) (before right_marks.now right_offsets.now right_lengths.now right_values.now right_arena.now) }
 {
     if map_fits(marks, offsets, lengths, values, arena) {
         if map_fits(
@@ -203,8 +203,8 @@ fn carry_out(
     right_values: &[u64],
     right_arena: &[u8],
 ) -> Outcome
-    requires { planned way ≡ plan_of (map_now marks offsets lengths values arena) (map_now right_marks right_offsets right_lengths right_values right_arena) }
-    ensures { told (outcome_numbers result) (after marks offsets lengths values arena) ≡ union_of maps (before marks offsets lengths values arena) (before right_marks right_offsets right_lengths right_values right_arena) }
+    requires { planned way ≡ plan_of (map_now marks.old offsets.old lengths.old values.old arena.old) (map_now right_marks.now right_offsets.now right_lengths.now right_values.now right_arena.now) }
+    ensures { told (outcome_numbers result) (after marks.new offsets.new lengths.new values.new arena.new) ≡ union_of maps (before marks.old offsets.old lengths.old values.old arena.old) (before right_marks.now right_offsets.now right_lengths.now right_values.now right_arena.now) }
 {
     match way {
         Planned::Go(used) => {
@@ -240,7 +240,7 @@ pub fn union_prefer_right(
     right_values: &[u64],
     right_arena: &[u8],
 ) -> Outcome
-    ensures { told (outcome_numbers result) (after marks offsets lengths values arena) ≡ union_of maps (before marks offsets lengths values arena) (before right_marks right_offsets right_lengths right_values right_arena) }
+    ensures { told (outcome_numbers result) (after marks.new offsets.new lengths.new values.new arena.new) ≡ union_of maps (before marks.old offsets.old lengths.old values.old arena.old) (before right_marks.now right_offsets.now right_lengths.now right_values.now right_arena.now) }
 {
     carry_out(
         plan(

@@ -72,7 +72,7 @@ impl Vacant {
         key: &[u8],
         value: u64,
     ) -> InSlot
-        ensures { told (in_slot_numbers result) (after marks offsets lengths values arena) ≡ vacant_insert_of maps (before marks offsets lengths values arena) self.slot key.now value }
+        ensures { told (in_slot_numbers result) (after marks.new offsets.new lengths.new values.new arena.new) ≡ vacant_insert_of maps (before marks.old offsets.old lengths.old values.old arena.old) self.slot key.now value }
     {
         let slot = self.slot;
         let plan = map_plan_insert(marks, offsets, lengths, values, arena, key);

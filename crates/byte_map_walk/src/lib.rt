@@ -13,7 +13,7 @@ use byte_slots::{len_at, map_ahead, offset_at};
 use kinds::Ahead;
 
 // A walk of a map is the slot where it stands.
-#[derive(Drop)]
+#[derive(Clone, Copy)]
 pub struct Walk {
     pub at: usize,
 }
@@ -53,7 +53,7 @@ impl Walk {
         arena: &[u8],
         budget: u64,
     ) -> Stepped
-        ensures { step_numbers result ≡ step_of (before marks offsets lengths values arena) self.at budget }
+        ensures { step_numbers result ≡ step_of (before marks.now offsets.now lengths.now values.now arena.now) self.at budget }
     {
         let ahead = map_ahead(marks, offsets, lengths, values, arena, self.at, budget);
         match ahead {
@@ -94,7 +94,7 @@ impl Walk {
         arena: &[u8],
         budget: u64,
     ) -> Stepped
-        ensures { told (step_numbers result) self.new.at ≡ moved_on (step_of (before marks offsets lengths values arena) self.old.at budget) }
+        ensures { told (step_numbers result) self.new.at ≡ moved_on (step_of (before marks.now offsets.now lengths.now values.now arena.now) self.old.at budget) }
     {
         let r = self.step(marks, offsets, lengths, values, arena, budget);
         *self = r.walk;

@@ -15,7 +15,7 @@ use byte_slots::{InsertPlan, RemovePlan, fits, plan_insert, plan_remove};
 
 // Makes an empty set of the lent arrays.
 pub fn make(marks: &mut [u8], offsets: &mut [u16], lengths: &mut [u8], arena: &mut [u8]) -> Outcome
-    ensures { told (outcome_numbers result) (after marks offsets lengths arena) ≡ make_of sets (before marks offsets lengths arena) }
+    ensures { told (outcome_numbers result) (after marks.new offsets.new lengths.new arena.new) ≡ make_of sets (before marks.old offsets.old lengths.old arena.old) }
 {
     if fits(marks, offsets, lengths, arena) {
         wipe(marks, offsets, lengths, arena);
@@ -27,7 +27,7 @@ pub fn make(marks: &mut [u8], offsets: &mut [u16], lengths: &mut [u8], arena: &m
 
 // Empties a set: every slot becomes never used, every arena byte 0.
 pub fn clear(marks: &mut [u8], offsets: &mut [u16], lengths: &mut [u8], arena: &mut [u8]) -> Outcome
-    ensures { told (outcome_numbers result) (after marks offsets lengths arena) ≡ make_of sets (before marks offsets lengths arena) }
+    ensures { told (outcome_numbers result) (after marks.new offsets.new lengths.new arena.new) ≡ make_of sets (before marks.old offsets.old lengths.old arena.old) }
 {
     make(marks, offsets, lengths, arena)
 }
@@ -40,7 +40,7 @@ pub fn insert(
     arena: &mut [u8],
     key: &[u8],
 ) -> Joined
-    ensures { told (joined_numbers result) (after marks offsets lengths arena) ≡ set_insert_of (before marks offsets lengths arena) key.now }
+    ensures { told (joined_numbers result) (after marks.new offsets.new lengths.new arena.new) ≡ set_insert_of (before marks.old offsets.old lengths.old arena.old) key.now }
 {
     let plan = plan_insert(marks, offsets, lengths, arena, key);
     match plan {
@@ -61,7 +61,7 @@ pub fn remove(
     arena: &mut [u8],
     key: &[u8],
 ) -> Dropped
-    ensures { told (dropped_numbers result) (after marks offsets lengths arena) ≡ dropped_of sets (before marks offsets lengths arena) key.now }
+    ensures { told (dropped_numbers result) (after marks.new offsets.new lengths.new arena.new) ≡ dropped_of sets (before marks.old offsets.old lengths.old arena.old) key.now }
 {
     let plan = plan_remove(marks, offsets, lengths, arena, key);
     match plan {
@@ -85,7 +85,7 @@ pub fn copy(
     lengths: &[u8],
     arena: &[u8],
 ) -> Outcome
-    ensures { told (outcome_numbers result) (after to_marks to_offsets to_lengths to_arena) ≡ copy_of sets (before to_marks to_offsets to_lengths to_arena) (before marks offsets lengths arena) }
+    ensures { told (outcome_numbers result) (after to_marks.new to_offsets.new to_lengths.new to_arena.new) ≡ copy_of sets (before to_marks.old to_offsets.old to_lengths.old to_arena.old) (before marks.now offsets.now lengths.now arena.now) }
 {
     if to_arena.len() != arena.len() {
         return Outcome::Refused(Refusal::Sizes);

@@ -13,7 +13,7 @@ use kinds::{Probed, Scanned, reserved_by};
 
 // The number of slots.
 pub fn capacity(marks: &[u8], offsets: &[u16], lengths: &[u8], arena: &[u8]) -> Counted
-    ensures { counted_numbers result ≡ capacity_of sets (before marks offsets lengths arena) }
+    ensures { counted_numbers result ≡ capacity_of sets (before marks.now offsets.now lengths.now arena.now) }
 {
     if byte_slots::fits(marks, offsets, lengths, arena) {
         return Counted::Count(marks.len());
@@ -23,7 +23,7 @@ pub fn capacity(marks: &[u8], offsets: &[u16], lengths: &[u8], arena: &[u8]) -> 
 
 // The number of keys.
 pub fn len(marks: &[u8], offsets: &[u16], lengths: &[u8], arena: &[u8]) -> Counted
-    ensures { counted_numbers result ≡ len_of sets (before marks offsets lengths arena) }
+    ensures { counted_numbers result ≡ len_of sets (before marks.now offsets.now lengths.now arena.now) }
 {
     if byte_slots::fits(marks, offsets, lengths, arena) {
         let seen = byte_slots::scan(marks, offsets, lengths, arena);
@@ -37,7 +37,7 @@ pub fn len(marks: &[u8], offsets: &[u16], lengths: &[u8], arena: &[u8]) -> Count
 
 // Whether there is no key.
 pub fn is_empty(marks: &[u8], offsets: &[u16], lengths: &[u8], arena: &[u8]) -> Emptiness
-    ensures { emptiness_numbers result ≡ is_empty_of sets (before marks offsets lengths arena) }
+    ensures { emptiness_numbers result ≡ is_empty_of sets (before marks.now offsets.now lengths.now arena.now) }
 {
     let count = len(marks, offsets, lengths, arena);
     match count {
@@ -60,7 +60,7 @@ pub fn reserve(
     keys: u64,
     bytes: u64,
 ) -> Reserved
-    ensures { reserved_numbers result ≡ reserve_of sets (before marks offsets lengths arena) keys bytes }
+    ensures { reserved_numbers result ≡ reserve_of sets (before marks.now offsets.now lengths.now arena.now) keys bytes }
 {
     if byte_slots::fits(marks, offsets, lengths, arena) {
         let found = byte_slots::survey(marks, offsets, lengths, arena);
@@ -75,7 +75,7 @@ pub fn reserve(
 
 // The stored key's offset and length where the key is there, with its slot and the examined number.
 pub fn get(marks: &[u8], offsets: &[u16], lengths: &[u8], arena: &[u8], key: &[u8]) -> Spanned
-    ensures { spanned_numbers result ≡ set_get_of (before marks offsets lengths arena) key.now }
+    ensures { spanned_numbers result ≡ set_get_of (before marks.now offsets.now lengths.now arena.now) key.now }
 {
     let seen = byte_slots::probe(marks, offsets, lengths, arena, key);
     match seen {
@@ -98,7 +98,7 @@ pub fn contains(
     arena: &[u8],
     key: &[u8],
 ) -> Contained
-    ensures { contained_numbers result ≡ contains_of sets (before marks offsets lengths arena) key.now }
+    ensures { contained_numbers result ≡ contains_of sets (before marks.now offsets.now lengths.now arena.now) key.now }
 {
     let seen = byte_slots::probe(marks, offsets, lengths, arena, key);
     match seen {

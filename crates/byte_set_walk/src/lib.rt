@@ -13,7 +13,7 @@ use byte_slots::{len_at, offset_at};
 use kinds::Ahead;
 
 // A walk of a set is the slot where it stands.
-#[derive(Drop)]
+#[derive(Clone, Copy)]
 pub struct Walk {
     pub at: usize,
 }
@@ -52,7 +52,7 @@ impl Walk {
         arena: &[u8],
         budget: u64,
     ) -> Stepped
-        ensures { step_numbers result ≡ set_step_of (before marks offsets lengths arena) self.at budget }
+        ensures { step_numbers result ≡ set_step_of (before marks.now offsets.now lengths.now arena.now) self.at budget }
     {
         let at = self.at;
         let ahead = byte_slots::ahead(marks, offsets, lengths, arena, at, budget);
@@ -93,7 +93,7 @@ impl Walk {
         arena: &[u8],
         budget: u64,
     ) -> Stepped
-        ensures { told (step_numbers result) self.new.at ≡ moved_on (set_step_of (before marks offsets lengths arena) self.old.at budget) }
+        ensures { told (step_numbers result) self.new.at ≡ moved_on (set_step_of (before marks.now offsets.now lengths.now arena.now) self.old.at budget) }
     {
         let r = self.step(marks, offsets, lengths, arena, budget);
         *self = r.walk;

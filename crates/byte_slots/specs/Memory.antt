@@ -1,13 +1,11 @@
 -- The lent lists of a byte table as one record, what its slots hold, and the store that they are.
 use Rattle.std.specs.Prelude.{ℕ, zero, suc, ◌+◌, ◌-◌, ◌≤◌, ◌<◌, Bool, true, false, cond, ◌&&◌, List, [], ◌∷◌, ◌++◌, ◌≡◌, eqb, ltb, leb, length, get_or, take, drop, set, replicate}
-use Rattle.std.specs.Borrow.{Bor}
 use Rattle.model.specs.Slots.{Slot, never, freed, damaged, live, Table, total, any_damaged}
 use Rattle.model.specs.Store.{Store}
 use Rattle.answers.specs.declared.Refusal.TheVariants.{LongKey}
 use Rattle.answers.specs.Refusals.{number_of}
 use Rattle.digest.specs.Home.{home_of, slots_fit, key_fits}
 use Rattle.kinds.specs.Columns.{Column}
-use Rattle.kinds.specs.Lent.{Lent}
 use Rattle.byte_slots.specs.declared.Kept.{Kept}
 use Rattle.byte_slots.specs.declared.Kept.TheVariants.{Fine, Refused}
 use Rattle.byte_slots.specs.Keys.{byte_keys}
@@ -186,11 +184,11 @@ abbrev pub memory : {W : Type 0} (C : Column W) → List ℕ → List ℕ → Li
 memory C marks offsets lengths arena words = record { spans = spans_of marks offsets lengths arena; words = words }
 
 -- The lent arrays without values, as the contracts name them: at one moment; when a call starts, and when it ends.
-abbrev pub spans_now : Bor (List ℕ) → Bor (List ℕ) → Bor (List ℕ) → Bor (List ℕ) → Spans
-spans_now marks offsets lengths arena = spans_of marks.now offsets.now lengths.now arena.now
+abbrev pub spans_now : List ℕ → List ℕ → List ℕ → List ℕ → Spans
+spans_now marks offsets lengths arena = spans_of marks offsets lengths arena
 
-abbrev pub spans_before : Lent → Lent → Lent → Lent → Spans
-spans_before marks offsets lengths arena = spans_now marks.entry offsets.entry lengths.entry arena.entry
+abbrev pub spans_before : List ℕ → List ℕ → List ℕ → List ℕ → Spans
+spans_before marks offsets lengths arena = spans_now marks offsets lengths arena
 
-abbrev pub spans_after : Lent → Lent → Lent → Lent → Spans
-spans_after marks offsets lengths arena = spans_now marks.exit offsets.exit lengths.exit arena.exit
+abbrev pub spans_after : List ℕ → List ℕ → List ℕ → List ℕ → Spans
+spans_after marks offsets lengths arena = spans_now marks offsets lengths arena

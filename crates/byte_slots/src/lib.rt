@@ -86,7 +86,7 @@ pub fn put_len(lengths: &mut [u8], i: usize, n: usize)
 // The mark of slot i: a live span past the arena is damage, shown as 3.
 pub fn mark_at(marks: &[u8], offsets: &[u16], lengths: &[u8], arena: &[u8], i: usize) -> u8
     requires { (i < length marks.now) × (length offsets.now ≡ length marks.now) × (length lengths.now ≡ length marks.now) }
-    ensures { result ≡ mark_of (spans_before marks offsets lengths arena) i }
+    ensures { result ≡ mark_of (spans_before marks.now offsets.now lengths.now arena.now) i }
 {
     let mark = marks[i];
     if mark == 1 {
@@ -110,7 +110,7 @@ pub fn key_at<'a>(offsets: &[u16], lengths: &[u8], arena: &'a [u8], i: usize) ->
 
 // Whether marks, offsets and lengths are of one length that a table may have, and the arena of a size that it may have.
 pub fn fits(marks: &[u8], offsets: &[u16], lengths: &[u8], arena: &[u8]) -> bool
-    ensures { result ≡ fitting (spans_before marks offsets lengths arena) }
+    ensures { result ≡ fitting (spans_before marks.now offsets.now lengths.now arena.now) }
 {
     if slots_fit(marks.len() as u64) {
         if marks.len() == offsets.len() {
@@ -207,7 +207,7 @@ pub fn look(
     key: &[u8],
 ) -> Sight
     requires { (slot < length marks.now) × (length offsets.now ≡ length marks.now) × (length lengths.now ≡ length marks.now) }
-    ensures { result ≡ sight_at (spans_before marks offsets lengths arena) key.now slot }
+    ensures { result ≡ sight_at (spans_before marks.now offsets.now lengths.now arena.now) key.now slot }
 {
     let mark = marks[slot];
     if mark == 1 {
@@ -240,7 +240,7 @@ fn walk_path(
     home: usize,
 ) -> Probed
     requires { (home < length marks.now) × (length offsets.now ≡ length marks.now) × (length lengths.now ≡ length marks.now) }
-    ensures { result ≡ path_from (spans_before marks offsets lengths arena) home key.now }
+    ensures { result ≡ path_from (spans_before marks.now offsets.now lengths.now arena.now) home key.now }
 {
     let size = marks.len();
     let mut slot = home;
@@ -267,7 +267,7 @@ fn walk_path(
 
 // The probing of a key: refusal 1 or 2, or what its path found.
 pub fn probe(marks: &[u8], offsets: &[u16], lengths: &[u8], arena: &[u8], key: &[u8]) -> Probed
-    ensures { result ≡ probing (spans_before marks offsets lengths arena) key.now }
+    ensures { result ≡ probing (spans_before marks.now offsets.now lengths.now arena.now) key.now }
 {
     if fits(marks, offsets, lengths, arena) {
         if may_ask(key) {
@@ -282,7 +282,7 @@ pub fn probe(marks: &[u8], offsets: &[u16], lengths: &[u8], arena: &[u8], key: &
 // The scan of all slots: damage, else the number of live slots.
 pub fn scan(marks: &[u8], offsets: &[u16], lengths: &[u8], arena: &[u8]) -> Scanned
     requires { (length offsets.now ≡ length marks.now) × (length lengths.now ≡ length marks.now) }
-    ensures { result ≡ scanning (spans_before marks offsets lengths arena) }
+    ensures { result ≡ scanning (spans_before marks.now offsets.now lengths.now arena.now) }
 {
     let mut live = 0;
     let mut i = 0;
@@ -307,7 +307,7 @@ pub fn next_live(
     end: usize,
 ) -> Next
     requires { (end ≤ length marks.now) × (length offsets.now ≡ length marks.now) × (length lengths.now ≡ length marks.now) }
-    ensures { result ≡ nexting (spans_before marks offsets lengths arena) at end }
+    ensures { result ≡ nexting (spans_before marks.now offsets.now lengths.now arena.now) at end }
 {
     let mut i = at;
     while i < end {
@@ -348,8 +348,8 @@ fn higher_end(end: usize, top: usize) -> usize
 
 // The survey of all slots: full damage, else `used`. No live span ends past the arena where none ends beyond `used`, and that is no more.
 pub fn survey(marks: &[u8], offsets: &[u16], lengths: &[u8], arena: &[u8]) -> Surveyed
-    requires { fitting (spans_now marks offsets lengths arena) ≡ true }
-    ensures { result ≡ surveying (spans_before marks offsets lengths arena) }
+    requires { fitting (spans_now marks.now offsets.now lengths.now arena.now) ≡ true }
+    ensures { result ≡ surveying (spans_before marks.now offsets.now lengths.now arena.now) }
 {
     let mut used = 0;
     let mut top = 0;
@@ -394,8 +394,8 @@ fn insert_plan_by(found: Probed, used: usize, size: usize, length: usize) -> Ins
 
 // The plan of a call that stores a key that may be stored, in a table of right sizes: damage, then what its path says.
 fn plan_kept(marks: &[u8], offsets: &[u16], lengths: &[u8], arena: &[u8], key: &[u8]) -> InsertPlan
-    requires { fitting (spans_now marks offsets lengths arena) ≡ true }
-    ensures { result ≡ planning_kept (spans_before marks offsets lengths arena) key.now }
+    requires { fitting (spans_now marks.now offsets.now lengths.now arena.now) ≡ true }
+    ensures { result ≡ planning_kept (spans_before marks.now offsets.now lengths.now arena.now) key.now }
 {
     let found = survey(marks, offsets, lengths, arena);
     match found {
@@ -416,7 +416,7 @@ pub fn plan_insert(
     arena: &[u8],
     key: &[u8],
 ) -> InsertPlan
-    ensures { result ≡ planning_insert (spans_before marks offsets lengths arena) key.now }
+    ensures { result ≡ planning_insert (spans_before marks.now offsets.now lengths.now arena.now) key.now }
 {
     if fits(marks, offsets, lengths, arena) {
         let kept = may_keep(key);
@@ -448,7 +448,7 @@ pub fn plan_remove(
     arena: &[u8],
     key: &[u8],
 ) -> RemovePlan
-    ensures { result ≡ planning_remove (spans_before marks offsets lengths arena) key.now }
+    ensures { result ≡ planning_remove (spans_before marks.now offsets.now lengths.now arena.now) key.now }
 {
     if fits(marks, offsets, lengths, arena) {
         if may_ask(key) {
@@ -469,7 +469,7 @@ pub fn plan_remove(
 
 // Whether the lent arrays may be a map: those of the keys, and as many values.
 pub fn map_fits(marks: &[u8], offsets: &[u16], lengths: &[u8], values: &[u64], arena: &[u8]) -> bool
-    ensures { result ≡ sized_of maps (before marks offsets lengths values arena) }
+    ensures { result ≡ sized_of maps (before marks.now offsets.now lengths.now values.now arena.now) }
 {
     if fits(marks, offsets, lengths, arena) {
         return marks.len() == values.len();
@@ -486,7 +486,7 @@ pub fn map_probe(
     arena: &[u8],
     key: &[u8],
 ) -> Probed
-    ensures { result ≡ probing_map (before marks offsets lengths values arena) key.now }
+    ensures { result ≡ probing_map (before marks.now offsets.now lengths.now values.now arena.now) key.now }
 {
     if marks.len() == values.len() {
         return probe(marks, offsets, lengths, arena, key);
@@ -503,7 +503,7 @@ pub fn map_plan_insert(
     arena: &[u8],
     key: &[u8],
 ) -> InsertPlan
-    ensures { result ≡ planning_map_insert (before marks offsets lengths values arena) key.now }
+    ensures { result ≡ planning_map_insert (before marks.now offsets.now lengths.now values.now arena.now) key.now }
 {
     if marks.len() == values.len() {
         return plan_insert(marks, offsets, lengths, arena, key);
@@ -520,7 +520,7 @@ pub fn map_plan_remove(
     arena: &[u8],
     key: &[u8],
 ) -> RemovePlan
-    ensures { result ≡ planning_map_remove (before marks offsets lengths values arena) key.now }
+    ensures { result ≡ planning_map_remove (before marks.now offsets.now lengths.now values.now arena.now) key.now }
 {
     if marks.len() == values.len() {
         return plan_remove(marks, offsets, lengths, arena, key);
@@ -537,7 +537,7 @@ pub fn ahead(
     at: usize,
     budget: u64,
 ) -> Ahead
-    ensures { result ≡ set_ahead (spans_before marks offsets lengths arena) at budget }
+    ensures { result ≡ set_ahead (spans_before marks.now offsets.now lengths.now arena.now) at budget }
 {
     if fits(marks, offsets, lengths, arena) {
         let stretch = way(marks.len(), at, budget);
@@ -563,7 +563,7 @@ pub fn map_ahead(
     at: usize,
     budget: u64,
 ) -> Ahead
-    ensures { result ≡ map_ahead (spans_before marks offsets lengths arena) values.now at budget }
+    ensures { result ≡ map_ahead (spans_before marks.now offsets.now lengths.now arena.now) values.now at budget }
 {
     if marks.len() == values.len() {
         return ahead(marks, offsets, lengths, arena, at, budget);

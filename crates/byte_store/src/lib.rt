@@ -8,7 +8,7 @@ ghost use Rattle.kinds.specs.Stores.{slot_in, slot_stored, all_stored};
 ghost use Rattle.byte_slots.specs.Memory.{spans_now, spans_before, spans_after, fitting, used_of};
 ghost use Rattle.byte_slots.specs.Kinds.{maps, sets};
 ghost use Rattle.byte_slots.specs.Maps.{before, after};
-ghost use Rattle.byte_slots.specs.Sets.{before as setBefore, after as setAfter};
+ghost use Rattle.byte_slots.specs.Sets.{before as set_before, after as set_after};
 ghost use Rattle.byte_slots.specs.Probing.{probing};
 ghost use Rattle.byte_arena.specs.Needs.{Aligned};
 ghost use Rattle.byte_store.specs.Stores.{Ready, Storable, pair_at, pairs_of};
@@ -33,8 +33,8 @@ pub fn store(
     key: &[u8],
     used: usize,
 ) -> Placed
-    requires { Storable (spans_now marks offsets lengths arena) used key.now }
-    ensures { (setAfter marks offsets lengths arena ≡ rule sets (setBefore marks offsets lengths arena) key.now tt) × (result.slot ≡ slot_by (length marks.old) (probing (spans_before marks offsets lengths arena) key.now)) × (result.used ≡ used_of (spans_after marks offsets lengths arena)) }
+    requires { Storable (spans_now marks.old offsets.old lengths.old arena.old) used key.now }
+    ensures { (set_after marks.new offsets.new lengths.new arena.new ≡ rule sets (set_before marks.old offsets.old lengths.old arena.old) key.now tt) × (result.slot ≡ slot_by (length marks.old) (probing (spans_before marks.old offsets.old lengths.old arena.old) key.now)) × (result.used ≡ used_of (spans_after marks.new offsets.new lengths.new arena.new)) }
 {
     let seen = probe(marks, offsets, lengths, arena, key);
     match seen {
@@ -70,8 +70,8 @@ pub fn store_slot(
     i: usize,
     used: usize,
 ) -> usize
-    requires { Ready (spans_now marks offsets lengths arena) used (pair_at (spans_now right_marks right_offsets right_lengths right_arena) i) × Aligned (spans_now right_marks right_offsets right_lengths right_arena) i }
-    ensures { (setAfter marks offsets lengths arena ≡ slot_stored sets (setBefore marks offsets lengths arena) (slot_in sets (setBefore right_marks right_offsets right_lengths right_arena) i)) × (result ≡ used_of (spans_after marks offsets lengths arena)) }
+    requires { Ready (spans_now marks.old offsets.old lengths.old arena.old) used (pair_at (spans_now right_marks.now right_offsets.now right_lengths.now right_arena.now) i) × Aligned (spans_now right_marks.now right_offsets.now right_lengths.now right_arena.now) i }
+    ensures { (set_after marks.new offsets.new lengths.new arena.new ≡ slot_stored sets (set_before marks.old offsets.old lengths.old arena.old) (slot_in sets (set_before right_marks.now right_offsets.now right_lengths.now right_arena.now) i)) × (result ≡ used_of (spans_after marks.new offsets.new lengths.new arena.new)) }
 {
     if mark_at(right_marks, right_offsets, right_lengths, right_arena, i) == 1 {
         let key = key_at(right_offsets, right_lengths, right_arena, i);
@@ -93,8 +93,8 @@ pub fn store_all(
     right_arena: &[u8],
     used: usize,
 )
-    requires { Ready (spans_now marks offsets lengths arena) used (pairs_of (spans_now right_marks right_offsets right_lengths right_arena) (length right_marks.now)) × (fitting (spans_now right_marks right_offsets right_lengths right_arena) ≡ true) }
-    ensures { setAfter marks offsets lengths arena ≡ all_stored sets (setBefore marks offsets lengths arena) (setBefore right_marks right_offsets right_lengths right_arena) (length right_marks.now) }
+    requires { Ready (spans_now marks.old offsets.old lengths.old arena.old) used (pairs_of (spans_now right_marks.now right_offsets.now right_lengths.now right_arena.now) (length right_marks.now)) × (fitting (spans_now right_marks.now right_offsets.now right_lengths.now right_arena.now) ≡ true) }
+    ensures { set_after marks.new offsets.new lengths.new arena.new ≡ all_stored sets (set_before marks.old offsets.old lengths.old arena.old) (set_before right_marks.now right_offsets.now right_lengths.now right_arena.now) (length right_marks.now) }
 {
     let mut end = used;
     let mut i = 0;
@@ -126,8 +126,8 @@ pub fn map_store(
     value: u64,
     used: usize,
 ) -> usize
-    requires { Storable (spans_now marks offsets lengths arena) used key.now × (length values.old ≡ length marks.old) }
-    ensures { (after marks offsets lengths values arena ≡ rule maps (before marks offsets lengths values arena) key.now value) × (result ≡ used_of (spans_after marks offsets lengths arena)) }
+    requires { Storable (spans_now marks.old offsets.old lengths.old arena.old) used key.now × (length values.old ≡ length marks.old) }
+    ensures { (after marks.new offsets.new lengths.new values.new arena.new ≡ rule maps (before marks.old offsets.old lengths.old values.old arena.old) key.now value) × (result ≡ used_of (spans_after marks.new offsets.new lengths.new arena.new)) }
 {
     let placed = store(marks, offsets, lengths, arena, key, used);
     let slot = placed.slot;
@@ -152,8 +152,8 @@ pub fn map_store_slot(
     i: usize,
     used: usize,
 ) -> usize
-    requires { Ready (spans_now marks offsets lengths arena) used (pair_at (spans_now right_marks right_offsets right_lengths right_arena) i) × Aligned (spans_now right_marks right_offsets right_lengths right_arena) i × (i < length right_values.now) × (length values.old ≡ length marks.old) }
-    ensures { (after marks offsets lengths values arena ≡ slot_stored maps (before marks offsets lengths values arena) (slot_in maps (before right_marks right_offsets right_lengths right_values right_arena) i)) × (result ≡ used_of (spans_after marks offsets lengths arena)) }
+    requires { Ready (spans_now marks.old offsets.old lengths.old arena.old) used (pair_at (spans_now right_marks.now right_offsets.now right_lengths.now right_arena.now) i) × Aligned (spans_now right_marks.now right_offsets.now right_lengths.now right_arena.now) i × (i < length right_values.now) × (length values.old ≡ length marks.old) }
+    ensures { (after marks.new offsets.new lengths.new values.new arena.new ≡ slot_stored maps (before marks.old offsets.old lengths.old values.old arena.old) (slot_in maps (before right_marks.now right_offsets.now right_lengths.now right_values.now right_arena.now) i)) × (result ≡ used_of (spans_after marks.new offsets.new lengths.new arena.new)) }
 {
     if mark_at(right_marks, right_offsets, right_lengths, right_arena, i) == 1 {
         let key = key_at(right_offsets, right_lengths, right_arena, i);
@@ -177,8 +177,8 @@ pub fn map_store_all(
     right_arena: &[u8],
     used: usize,
 )
-    requires { Ready (spans_now marks offsets lengths arena) used (pairs_of (spans_now right_marks right_offsets right_lengths right_arena) (length right_marks.now)) × (fitting (spans_now right_marks right_offsets right_lengths right_arena) ≡ true) × (length right_values.now ≡ length right_marks.now) × (length values.old ≡ length marks.old) }
-    ensures { after marks offsets lengths values arena ≡ all_stored maps (before marks offsets lengths values arena) (before right_marks right_offsets right_lengths right_values right_arena) (length right_marks.now) }
+    requires { Ready (spans_now marks.old offsets.old lengths.old arena.old) used (pairs_of (spans_now right_marks.now right_offsets.now right_lengths.now right_arena.now) (length right_marks.now)) × (fitting (spans_now right_marks.now right_offsets.now right_lengths.now right_arena.now) ≡ true) × (length right_values.now ≡ length right_marks.now) × (length values.old ≡ length marks.old) }
+    ensures { after marks.new offsets.new lengths.new values.new arena.new ≡ all_stored maps (before marks.old offsets.old lengths.old values.old arena.old) (before right_marks.now right_offsets.now right_lengths.now right_values.now right_arena.now) (length right_marks.now) }
 {
     let mut end = used;
     let mut i = 0;

@@ -14,7 +14,7 @@ use kinds::Probed;
 
 // Makes an empty map of the lent arrays.
 pub fn make(marks: &mut [u8], keys: &mut [u64], values: &mut [u64]) -> Outcome
-    ensures { told (outcome_numbers result) (after marks keys values) ≡ make_of maps (before marks keys values) }
+    ensures { told (outcome_numbers result) (after marks.new keys.new values.new) ≡ make_of maps (before marks.old keys.old values.old) }
 {
     if int_slots::map_fits(marks, keys, values) {
         clear_bytes(marks);
@@ -28,7 +28,7 @@ pub fn make(marks: &mut [u8], keys: &mut [u64], values: &mut [u64]) -> Outcome
 
 // Empties a map: every slot becomes never used.
 pub fn clear(marks: &mut [u8], keys: &mut [u64], values: &mut [u64]) -> Outcome
-    ensures { told (outcome_numbers result) (after marks keys values) ≡ make_of maps (before marks keys values) }
+    ensures { told (outcome_numbers result) (after marks.new keys.new values.new) ≡ make_of maps (before marks.old keys.old values.old) }
 {
     make(marks, keys, values)
 }
@@ -41,7 +41,7 @@ pub fn insert(
     key: u64,
     value: u64,
 ) -> Inserted
-    ensures { told (inserted_numbers result) (after marks keys values) ≡ insert_of (before marks keys values) key value }
+    ensures { told (inserted_numbers result) (after marks.new keys.new values.new) ≡ insert_of (before marks.old keys.old values.old) key value }
 {
     let seen = int_slots::map_probe(marks, keys, values, key);
     match seen {
@@ -63,7 +63,7 @@ pub fn insert(
 
 // Takes a key out: its slot is freed, its words become 0.
 pub fn remove(marks: &mut [u8], keys: &mut [u64], values: &mut [u64], key: u64) -> Removed
-    ensures { told (removed_numbers result) (after marks keys values) ≡ remove_of maps (before marks keys values) key }
+    ensures { told (removed_numbers result) (after marks.new keys.new values.new) ≡ remove_of maps (before marks.old keys.old values.old) key }
 {
     let seen = int_slots::map_probe(marks, keys, values, key);
     match seen {
@@ -89,7 +89,7 @@ pub fn copy(
     keys: &[u64],
     values: &[u64],
 ) -> Outcome
-    ensures { told (outcome_numbers result) (after to_marks to_keys to_values) ≡ copy_of maps (before to_marks to_keys to_values) (before marks keys values) }
+    ensures { told (outcome_numbers result) (after to_marks.new to_keys.new to_values.new) ≡ copy_of maps (before to_marks.old to_keys.old to_values.old) (before marks.now keys.now values.now) }
 {
     if int_slots::map_fits(to_marks, to_keys, to_values) {
         if int_slots::map_fits(marks, keys, values) {

@@ -27,7 +27,7 @@ pub enum Entered {
 
 // Where a key stands or would go; refused exactly as insert would be.
 pub fn entry(marks: &[u8], keys: &[u64], values: &[u64], key: u64) -> Entered
-    ensures { entered_numbers result ≡ entry_of maps (before marks keys values) key }
+    ensures { entered_numbers result ≡ entry_of maps (before marks.now keys.now values.now) key }
 {
     let seen = int_slots::map_probe(marks, keys, values, key);
     match seen {
@@ -58,7 +58,7 @@ impl Entered {
         key: u64,
         default: u64,
     ) -> InSlot
-        ensures { told (in_slot_numbers result) (after marks keys values) ≡ or_insert_of maps (before marks keys values) (handle_of (length marks.old) self) key default }
+        ensures { told (in_slot_numbers result) (after marks.new keys.new values.new) ≡ or_insert_of maps (before marks.old keys.old values.old) (handle_of (length marks.old) self) key default }
     {
         let Entered::Occupied(handle, _, _) = self else {
             return self
@@ -81,7 +81,7 @@ impl Entered {
         key: u64,
         value: u64,
     ) -> InSlot
-        ensures { told (in_slot_numbers result) (after marks keys values) ≡ insert_entry_of maps (before marks keys values) (handle_of (length marks.old) self) key value }
+        ensures { told (in_slot_numbers result) (after marks.new keys.new values.new) ≡ insert_entry_of maps (before marks.old keys.old values.old) (handle_of (length marks.old) self) key value }
     {
         let Entered::Occupied(handle, _, _) = self else {
             return self

@@ -65,7 +65,7 @@ fn value_in(mark: u8, held: u64, value: u64, slot: usize, key: u64) -> Held
 
 // What an occupied handle of this slot holds for the key: the value, or a refusal.
 fn value_of(marks: &[u8], keys: &[u64], values: &[u64], slot: usize, key: u64) -> Held
-    ensures { held_numbers result ≡ held_of maps (before marks keys values) slot key }
+    ensures { held_numbers result ≡ held_of maps (before marks.now keys.now values.now) slot key }
 {
     if int_slots::map_fits(marks, keys, values) {
         if slot < marks.len() {
@@ -79,7 +79,7 @@ fn value_of(marks: &[u8], keys: &[u64], values: &[u64], slot: usize, key: u64) -
 impl Occupied {
     // The value in the slot.
     pub fn get(self, marks: &[u8], keys: &[u64], values: &[u64], key: u64) -> Held
-        ensures { held_numbers result ≡ held_of maps (before marks keys values) self.slot key }
+        ensures { held_numbers result ≡ held_of maps (before marks.now keys.now values.now) self.slot key }
     {
         value_of(marks, keys, values, self.slot, key)
     }
@@ -93,7 +93,7 @@ impl Occupied {
         key: u64,
         value: u64,
     ) -> Swapped
-        ensures { told (swapped_numbers result) (after marks keys values) ≡ set_of maps (before marks keys values) self.slot key value }
+        ensures { told (swapped_numbers result) (after marks.new keys.new values.new) ≡ set_of maps (before marks.old keys.old values.old) self.slot key value }
     {
         let slot = self.slot;
         let held = value_of(marks, keys, values, slot, key);
@@ -108,7 +108,7 @@ impl Occupied {
 
     // Frees the slot; its value is answered.
     pub fn remove(self, marks: &mut [u8], keys: &mut [u64], values: &mut [u64], key: u64) -> Taken
-        ensures { told (taken_numbers result) (after marks keys values) ≡ taken_of maps (before marks keys values) self.slot key }
+        ensures { told (taken_numbers result) (after marks.new keys.new values.new) ≡ taken_of maps (before marks.old keys.old values.old) self.slot key }
     {
         let slot = self.slot;
         let held = value_of(marks, keys, values, slot, key);
@@ -131,7 +131,7 @@ impl Occupied {
         values: &mut [u64],
         key: u64,
     ) -> TakenEntry
-        ensures { told (taken_entry_numbers result) (after marks keys values) ≡ remove_entry_of (before marks keys values) self.slot key }
+        ensures { told (taken_entry_numbers result) (after marks.new keys.new values.new) ≡ remove_entry_of (before marks.old keys.old values.old) self.slot key }
     {
         let taken = self.remove(marks, keys, values, key);
         match taken {

@@ -11,7 +11,7 @@ use kinds::Probed;
 
 // The number of slots.
 pub fn capacity(marks: &[u8], keys: &[u64], values: &[u64]) -> Counted
-    ensures { counted_numbers result ≡ capacity_of maps (before marks keys values) }
+    ensures { counted_numbers result ≡ capacity_of maps (before marks.now keys.now values.now) }
 {
     if marks.len() == values.len() {
         return int_set_reads::capacity(marks, keys);
@@ -21,7 +21,7 @@ pub fn capacity(marks: &[u8], keys: &[u64], values: &[u64]) -> Counted
 
 // The number of keys.
 pub fn len(marks: &[u8], keys: &[u64], values: &[u64]) -> Counted
-    ensures { counted_numbers result ≡ len_of maps (before marks keys values) }
+    ensures { counted_numbers result ≡ len_of maps (before marks.now keys.now values.now) }
 {
     if marks.len() == values.len() {
         return int_set_reads::len(marks, keys);
@@ -31,7 +31,7 @@ pub fn len(marks: &[u8], keys: &[u64], values: &[u64]) -> Counted
 
 // Whether there is no key.
 pub fn is_empty(marks: &[u8], keys: &[u64], values: &[u64]) -> Emptiness
-    ensures { emptiness_numbers result ≡ is_empty_of maps (before marks keys values) }
+    ensures { emptiness_numbers result ≡ is_empty_of maps (before marks.now keys.now values.now) }
 {
     if marks.len() == values.len() {
         return int_set_reads::is_empty(marks, keys);
@@ -41,7 +41,7 @@ pub fn is_empty(marks: &[u8], keys: &[u64], values: &[u64]) -> Emptiness
 
 // Whether so many slots are not live.
 pub fn reserve(marks: &[u8], keys: &[u64], values: &[u64], asked: u64) -> Reserved
-    ensures { reserved_numbers result ≡ reserve_of maps (before marks keys values) asked 0 }
+    ensures { reserved_numbers result ≡ reserve_of maps (before marks.now keys.now values.now) asked 0 }
 {
     if marks.len() == values.len() {
         return int_set_reads::reserve(marks, keys, asked);
@@ -51,7 +51,7 @@ pub fn reserve(marks: &[u8], keys: &[u64], values: &[u64], asked: u64) -> Reserv
 
 // The value of a key, with its slot and the examined number.
 pub fn get(marks: &[u8], keys: &[u64], values: &[u64], key: u64) -> Got
-    ensures { got_numbers result ≡ get_of maps (before marks keys values) key }
+    ensures { got_numbers result ≡ get_of maps (before marks.now keys.now values.now) key }
 {
     let seen = int_slots::map_probe(marks, keys, values, key);
     match seen {
@@ -64,7 +64,7 @@ pub fn get(marks: &[u8], keys: &[u64], values: &[u64], key: u64) -> Got
 
 // Whether a key is there, with the examined number.
 pub fn contains_key(marks: &[u8], keys: &[u64], values: &[u64], key: u64) -> Contained
-    ensures { contained_numbers result ≡ contains_of maps (before marks keys values) key }
+    ensures { contained_numbers result ≡ contains_of maps (before marks.now keys.now values.now) key }
 {
     if marks.len() == values.len() {
         return int_set_reads::contains(marks, keys, key);

@@ -15,7 +15,7 @@ use kinds::{Probed, Scanned};
 // What a slot of the right with this mark and key needs of the left: one slot where it is live and its key is absent.
 fn slot_needs(marks: &[u8], keys: &[u64], values: &[u64], mark: u8, key: u64) -> usize
     requires { sized_of maps (memory marks.now keys.now values.now) ≡ true }
-    ensures { result ≡ slot_needs (before marks keys values) mark key }
+    ensures { result ≡ slot_needs (before marks.now keys.now values.now) mark key }
 {
     if mark == 1 {
         let seen = int_slots::map_probe(marks, keys, values, key);
@@ -39,7 +39,7 @@ fn table_needs(
     right_values: &[u64],
 ) -> usize
     requires { (sized_of maps (memory marks.now keys.now values.now) ≡ true) × (length right_keys.now ≡ length right_marks.now) }
-    ensures { result ≡ table_needs (before marks keys values) (before right_marks right_keys right_values) (length right_marks.now) }
+    ensures { result ≡ table_needs (before marks.now keys.now values.now) (before right_marks.now right_keys.now right_values.now) (length right_marks.now) }
 {
     let mut sum = 0;
     let mut i = 0;
@@ -60,7 +60,7 @@ fn room(
     right_values: &[u64],
 ) -> Outcome
     requires { (sized_of maps (memory marks.now keys.now values.now) ≡ true) × (sized_of maps (memory right_marks.now right_keys.now right_values.now) ≡ true) }
-    ensures { outcome_numbers result ≡ plan_of (before marks keys values) (before right_marks right_keys right_values) }
+    ensures { outcome_numbers result ≡ plan_of (before marks.now keys.now values.now) (before right_marks.now right_keys.now right_values.now) }
 {
     let seen = int_slots::scan(marks);
     let Scanned::Live(live) = seen else {
@@ -87,7 +87,7 @@ fn plan(
     right_keys: &[u64],
     right_values: &[u64],
 ) -> Outcome
-    ensures { outcome_numbers result ≡ plan_of (before marks keys values) (before right_marks right_keys right_values) }
+    ensures { outcome_numbers result ≡ plan_of (before marks.now keys.now values.now) (before right_marks.now right_keys.now right_values.now) }
 {
     if int_slots::map_fits(marks, keys, values) {
         if int_slots::map_fits(right_marks, right_keys, right_values) {
@@ -107,7 +107,7 @@ pub fn union_prefer_right(
     right_keys: &[u64],
     right_values: &[u64],
 ) -> Outcome
-    ensures { told (outcome_numbers result) (after marks keys values) ≡ union_of maps (before marks keys values) (before right_marks right_keys right_values) }
+    ensures { told (outcome_numbers result) (after marks.new keys.new values.new) ≡ union_of maps (before marks.old keys.old values.old) (before right_marks.now right_keys.now right_values.now) }
 {
     let outcome = plan(marks, keys, values, right_marks, right_keys, right_values);
     match outcome {

@@ -28,7 +28,7 @@ pub enum InSlot {
 
 // Whether a vacant handle of this slot is good for the key: insert would use that very slot.
 fn vacancy_at(marks: &[u8], keys: &[u64], values: &[u64], slot: usize, key: u64) -> Outcome
-    ensures { outcome_numbers result ≡ vacancy_of (before marks keys values) slot key }
+    ensures { outcome_numbers result ≡ vacancy_of (before marks.now keys.now values.now) slot key }
 {
     let seen = int_slots::map_probe(marks, keys, values, key);
     match seen {
@@ -54,7 +54,7 @@ impl Vacant {
         key: u64,
         value: u64,
     ) -> InSlot
-        ensures { told (in_slot_numbers result) (after marks keys values) ≡ vacant_insert_of maps (before marks keys values) self.slot key value }
+        ensures { told (in_slot_numbers result) (after marks.new keys.new values.new) ≡ vacant_insert_of maps (before marks.old keys.old values.old) self.slot key value }
     {
         let slot = self.slot;
         let worth = vacancy_at(marks, keys, values, slot, key);

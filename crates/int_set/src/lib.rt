@@ -14,7 +14,7 @@ use kinds::Probed;
 
 // Makes an empty set of the lent arrays.
 pub fn make(marks: &mut [u8], keys: &mut [u64]) -> Outcome
-    ensures { told (outcome_numbers result) (after marks keys) ≡ make_of sets (before marks keys) }
+    ensures { told (outcome_numbers result) (after marks.new keys.new) ≡ make_of sets (before marks.old keys.old) }
 {
     if int_slots::fits(marks, keys) {
         clear_bytes(marks);
@@ -27,14 +27,14 @@ pub fn make(marks: &mut [u8], keys: &mut [u64]) -> Outcome
 
 // Empties a set: every slot becomes never used.
 pub fn clear(marks: &mut [u8], keys: &mut [u64]) -> Outcome
-    ensures { told (outcome_numbers result) (after marks keys) ≡ make_of sets (before marks keys) }
+    ensures { told (outcome_numbers result) (after marks.new keys.new) ≡ make_of sets (before marks.old keys.old) }
 {
     make(marks, keys)
 }
 
 // Puts a key in: the first free slot of its path takes it; one that is there already stores nothing.
 pub fn insert(marks: &mut [u8], keys: &mut [u64], key: u64) -> Added
-    ensures { told (added_numbers result) (after marks keys) ≡ set_insert_of (before marks keys) key }
+    ensures { told (added_numbers result) (after marks.new keys.new) ≡ set_insert_of (before marks.old keys.old) key }
 {
     let seen = int_slots::probe(marks, keys, key);
     match seen {
@@ -51,7 +51,7 @@ pub fn insert(marks: &mut [u8], keys: &mut [u64], key: u64) -> Added
 
 // Takes a key out: its slot is freed, its word becomes 0.
 pub fn remove(marks: &mut [u8], keys: &mut [u64], key: u64) -> Dropped
-    ensures { told (dropped_numbers result) (after marks keys) ≡ dropped_of sets (before marks keys) key }
+    ensures { told (dropped_numbers result) (after marks.new keys.new) ≡ dropped_of sets (before marks.old keys.old) key }
 {
     let seen = int_slots::probe(marks, keys, key);
     match seen {
@@ -68,7 +68,7 @@ pub fn remove(marks: &mut [u8], keys: &mut [u64], key: u64) -> Dropped
 
 // Makes a set equal to another of equal sizes, in every slot.
 pub fn copy(to_marks: &mut [u8], to_keys: &mut [u64], marks: &[u8], keys: &[u64]) -> Outcome
-    ensures { told (outcome_numbers result) (after to_marks to_keys) ≡ copy_of sets (before to_marks to_keys) (before marks keys) }
+    ensures { told (outcome_numbers result) (after to_marks.new to_keys.new) ≡ copy_of sets (before to_marks.old to_keys.old) (before marks.now keys.now) }
 {
     if int_slots::fits(to_marks, to_keys) {
         if int_slots::fits(marks, keys) {

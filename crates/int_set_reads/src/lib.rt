@@ -12,7 +12,7 @@ use kinds::{Probed, Scanned};
 
 // The number of slots.
 pub fn capacity(marks: &[u8], keys: &[u64]) -> Counted
-    ensures { counted_numbers result ≡ capacity_of sets (before marks keys) }
+    ensures { counted_numbers result ≡ capacity_of sets (before marks.now keys.now) }
 {
     if int_slots::fits(marks, keys) {
         return Counted::Count(marks.len());
@@ -22,7 +22,7 @@ pub fn capacity(marks: &[u8], keys: &[u64]) -> Counted
 
 // The number of keys.
 pub fn len(marks: &[u8], keys: &[u64]) -> Counted
-    ensures { counted_numbers result ≡ len_of sets (before marks keys) }
+    ensures { counted_numbers result ≡ len_of sets (before marks.now keys.now) }
 {
     if int_slots::fits(marks, keys) {
         let seen = int_slots::scan(marks);
@@ -36,7 +36,7 @@ pub fn len(marks: &[u8], keys: &[u64]) -> Counted
 
 // Whether there is no key.
 pub fn is_empty(marks: &[u8], keys: &[u64]) -> Emptiness
-    ensures { emptiness_numbers result ≡ is_empty_of sets (before marks keys) }
+    ensures { emptiness_numbers result ≡ is_empty_of sets (before marks.now keys.now) }
 {
     let count = len(marks, keys);
     match count {
@@ -52,7 +52,7 @@ pub fn is_empty(marks: &[u8], keys: &[u64]) -> Emptiness
 
 // Whether so many slots are not live.
 pub fn reserve(marks: &[u8], keys: &[u64], asked: u64) -> Reserved
-    ensures { reserved_numbers result ≡ reserve_of sets (before marks keys) asked 0 }
+    ensures { reserved_numbers result ≡ reserve_of sets (before marks.now keys.now) asked 0 }
 {
     let count = len(marks, keys);
     match count {
@@ -68,7 +68,7 @@ pub fn reserve(marks: &[u8], keys: &[u64], asked: u64) -> Reserved
 
 // The key where it is there, with its slot and the examined number.
 pub fn get(marks: &[u8], keys: &[u64], key: u64) -> Member
-    ensures { member_numbers result ≡ set_get_of (before marks keys) key }
+    ensures { member_numbers result ≡ set_get_of (before marks.now keys.now) key }
 {
     let seen = int_slots::probe(marks, keys, key);
     match seen {
@@ -81,7 +81,7 @@ pub fn get(marks: &[u8], keys: &[u64], key: u64) -> Member
 
 // Whether a key is there, with the examined number.
 pub fn contains(marks: &[u8], keys: &[u64], key: u64) -> Contained
-    ensures { contained_numbers result ≡ contains_of sets (before marks keys) key }
+    ensures { contained_numbers result ≡ contains_of sets (before marks.now keys.now) key }
 {
     let seen = int_slots::probe(marks, keys, key);
     match seen {

@@ -12,7 +12,7 @@ use answers::{NOTHING, Numbers, PAIR, Refusal, WALK_DONE, number, walk_numbers};
 use kinds::Ahead;
 
 // A walk of a set is the slot where it stands.
-#[derive(Drop)]
+#[derive(Clone, Copy)]
 pub struct Walk {
     pub at: usize,
 }
@@ -44,7 +44,7 @@ impl Walk {
 
     // One step with a budget of slots: the key of the first live slot within it, nothing, or done.
     pub fn step(self, marks: &[u8], keys: &[u64], budget: u64) -> Stepped
-        ensures { step_numbers result ≡ set_step_of (before marks keys) self.at budget }
+        ensures { step_numbers result ≡ set_step_of (before marks.now keys.now) self.at budget }
     {
         let at = self.at;
         let ahead = int_slots::ahead(marks, keys, at, budget);
@@ -74,7 +74,7 @@ impl Walk {
 
     // One step of a lent walk, which moves on in its place.
     pub fn step_on(&mut self, marks: &[u8], keys: &[u64], budget: u64) -> Stepped
-        ensures { told (step_numbers result) self.new.at ≡ moved_on (set_step_of (before marks keys) self.old.at budget) }
+        ensures { told (step_numbers result) self.new.at ≡ moved_on (set_step_of (before marks.now keys.now) self.old.at budget) }
     {
         let r = self.step(marks, keys, budget);
         *self = r.walk;

@@ -2,7 +2,6 @@
 use Rattle.std.specs.Prelude.{ℕ}
 use Rattle.model.specs.Store.{Store}
 use Rattle.kinds.specs.Columns.{values}
-use Rattle.kinds.specs.Lent.{Lent}
 use Rattle.int_slots.specs.Memory.{IntMemory, int_store, memory}
 
 -- An integer map as a store.
@@ -10,8 +9,8 @@ abbrev pub maps : Store ℕ ℕ
 maps = int_store values
 
 -- The lent arrays of a map when a call starts, and when it ends.
-abbrev pub before : Lent → Lent → Lent → IntMemory values
-before marks keys vs = memory marks.entry.now keys.entry.now vs.entry.now
+abbrev pub before : List ℕ → List ℕ → List ℕ → IntMemory values
+before marks keys vs = memory marks keys vs
 
-abbrev pub after : Lent → Lent → Lent → IntMemory values
-after marks keys vs = memory marks.exit.now keys.exit.now vs.exit.now
+abbrev pub after : List ℕ → List ℕ → List ℕ → IntMemory values
+after marks keys vs = memory marks keys vs

@@ -2,7 +2,6 @@
 use Rattle.std.specs.Prelude.{ℕ, List}
 use Rattle.model.specs.Store.{Store}
 use Rattle.kinds.specs.Columns.{nothing}
-use Rattle.kinds.specs.Lent.{Lent}
 use Rattle.int_slots.specs.Memory.{IntMemory, int_store}
 
 -- An integer set as a store: no values stand beside its keys.
@@ -14,8 +13,8 @@ abbrev pub memory : List ℕ → List ℕ → IntMemory nothing
 memory marks keys = record { marks = marks; keys = keys; words = tt }
 
 -- The lent arrays of a set when a call starts, and when it ends.
-abbrev pub before : Lent → Lent → IntMemory nothing
-before marks keys = memory marks.entry.now keys.entry.now
+abbrev pub before : List ℕ → List ℕ → IntMemory nothing
+before marks keys = memory marks keys
 
-abbrev pub after : Lent → Lent → IntMemory nothing
-after marks keys = memory marks.exit.now keys.exit.now
+abbrev pub after : List ℕ → List ℕ → IntMemory nothing
+after marks keys = memory marks keys

@@ -127,7 +127,7 @@ pub fn next_live(marks: &[u8], at: usize, end: usize) -> Next
 
 // Whether the three arrays of a map are of one length that a table may have.
 pub fn map_fits(marks: &[u8], keys: &[u64], values: &[u64]) -> bool
-    ensures { result ≡ sized_of maps (before marks keys values) }
+    ensures { result ≡ sized_of maps (before marks.now keys.now values.now) }
 {
     if marks.len() == values.len() {
         if marks.len() == keys.len() {
@@ -139,7 +139,7 @@ pub fn map_fits(marks: &[u8], keys: &[u64], values: &[u64]) -> bool
 
 // The probing of a key in a map: refusal 1, or what its path found.
 pub fn map_probe(marks: &[u8], keys: &[u64], values: &[u64], key: u64) -> Probed
-    ensures { result ≡ probing_map (before marks keys values) key }
+    ensures { result ≡ probing_map (before marks.now keys.now values.now) key }
 {
     if marks.len() == values.len() {
         return probe(marks, keys, key);

@@ -9,7 +9,7 @@ ghost use Rattle.kinds.specs.Probing.{slot_by};
 ghost use Rattle.kinds.specs.Stores.{slot_stored, all_stored};
 ghost use Rattle.int_slots.specs.Memory.{memory};
 ghost use Rattle.int_slots.specs.Maps.{maps, before, after};
-ghost use Rattle.int_slots.specs.Sets.{sets, memory as set_memory, before as setBefore, after as setAfter};
+ghost use Rattle.int_slots.specs.Sets.{sets, memory as set_memory, before as set_before, after as set_after};
 ghost use Rattle.int_slots.specs.Probing.{probing};
 
 use int_slots::probe;
@@ -18,7 +18,7 @@ use kinds::Probed;
 // The insert rule with no test: the first free slot of the key's path takes it, where it is absent. The slot that has the key then; S where none was free.
 pub fn store(marks: &mut [u8], keys: &mut [u64], key: u64) -> usize
     requires { sized_of sets (set_memory marks.old keys.old) ≡ true }
-    ensures { (setAfter marks keys ≡ rule sets (setBefore marks keys) key tt) × (result ≡ slot_by (length marks.old) (probing marks.old keys.old key)) }
+    ensures { (set_after marks.new keys.new ≡ rule sets (set_before marks.old keys.old) key tt) × (result ≡ slot_by (length marks.old) (probing marks.old keys.old key)) }
 {
     let seen = probe(marks, keys, key);
     match seen {
@@ -36,7 +36,7 @@ pub fn store(marks: &mut [u8], keys: &mut [u64], key: u64) -> usize
 // The insert rule for a slot with this mark and key, where it is live.
 pub fn store_slot(marks: &mut [u8], keys: &mut [u64], mark: u8, key: u64)
     requires { sized_of sets (set_memory marks.old keys.old) ≡ true }
-    ensures { setAfter marks keys ≡ slot_stored sets (setBefore marks keys) (cell mark key tt) }
+    ensures { set_after marks.new keys.new ≡ slot_stored sets (set_before marks.old keys.old) (cell mark key tt) }
 {
     if mark == 1 {
         store(marks, keys, key);
@@ -47,7 +47,7 @@ pub fn store_slot(marks: &mut [u8], keys: &mut [u64], mark: u8, key: u64)
 // The keys of another table, the right, go in by the insert rule, in its slot order.
 pub fn store_all(marks: &mut [u8], keys: &mut [u64], right_marks: &[u8], right_keys: &[u64])
     requires { (sized_of sets (set_memory marks.old keys.old) ≡ true) × (length right_keys.now ≡ length right_marks.now) }
-    ensures { setAfter marks keys ≡ all_stored sets (setBefore marks keys) (setBefore right_marks right_keys) (length right_marks.now) }
+    ensures { set_after marks.new keys.new ≡ all_stored sets (set_before marks.old keys.old) (set_before right_marks.now right_keys.now) (length right_marks.now) }
 {
     let mut i = 0;
     while i < right_marks.len() {
@@ -59,7 +59,7 @@ pub fn store_all(marks: &mut [u8], keys: &mut [u64], right_marks: &[u8], right_k
 // The same in a map: the key's slot has the value then.
 pub fn map_store(marks: &mut [u8], keys: &mut [u64], values: &mut [u64], key: u64, value: u64)
     requires { sized_of maps (memory marks.old keys.old values.old) ≡ true }
-    ensures { after marks keys values ≡ rule maps (before marks keys values) key value }
+    ensures { after marks.new keys.new values.new ≡ rule maps (before marks.old keys.old values.old) key value }
 {
     let slot = store(marks, keys, key);
     if slot < values.len() {
@@ -77,7 +77,7 @@ pub fn map_store_slot(
     value: u64,
 )
     requires { sized_of maps (memory marks.old keys.old values.old) ≡ true }
-    ensures { after marks keys values ≡ slot_stored maps (before marks keys values) (cell mark key value) }
+    ensures { after marks.new keys.new values.new ≡ slot_stored maps (before marks.old keys.old values.old) (cell mark key value) }
 {
     if mark == 1 {
         map_store(marks, keys, values, key, value);
@@ -95,7 +95,7 @@ pub fn map_store_all(
     right_values: &[u64],
 )
     requires { (sized_of maps (memory marks.old keys.old values.old) ≡ true) × (length right_keys.now ≡ length right_marks.now) × (length right_values.now ≡ length right_marks.now) }
-    ensures { after marks keys values ≡ all_stored maps (before marks keys values) (before right_marks right_keys right_values) (length right_marks.now) }
+    ensures { after marks.new keys.new values.new ≡ all_stored maps (before marks.old keys.old values.old) (before right_marks.now right_keys.now right_values.now) (length right_marks.now) }
 {
     let mut i = 0;
     while i < right_marks.len() {

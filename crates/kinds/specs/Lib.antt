@@ -2,7 +2,6 @@
 pub mod Calls
 pub mod Columns
 pub mod Handing
-pub mod Lent
 pub mod Marks
 pub mod Moved
 pub mod Probing

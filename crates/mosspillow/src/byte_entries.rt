@@ -21,7 +21,7 @@ pub extern "C" fn moss_byte_map_entry(
     arena: &[u8],
     key: &[u8],
 ) -> Numbers
-    ensures { result ≡ entry_of maps (before marks offsets lengths values arena) key.now }
+    ensures { result ≡ entry_of maps (before marks.now offsets.now lengths.now values.now arena.now) key.now }
 {
     entered_numbers(byte_map_entry::entry(marks, offsets, lengths, values, arena, key))
 }
@@ -37,7 +37,7 @@ pub extern "C" fn moss_byte_map_occupied_get(
     slot: u64,
     key: &[u8],
 ) -> Numbers
-    ensures { result ≡ held_of maps (before marks offsets lengths values arena) slot key.now }
+    ensures { result ≡ held_of maps (before marks.now offsets.now lengths.now values.now arena.now) slot key.now }
 {
     let handle = Occupied {
         slot: slot as usize,
@@ -57,7 +57,7 @@ pub extern "C" fn moss_byte_map_occupied_set(
     key: &[u8],
     value: u64,
 ) -> Numbers
-    ensures { told result (after marks offsets lengths values arena) ≡ set_of maps (before marks offsets lengths values arena) slot key.now value }
+    ensures { told result (after marks.new offsets.new lengths.new values.new arena.new) ≡ set_of maps (before marks.old offsets.old lengths.old values.old arena.old) slot key.now value }
 {
     let handle = Occupied {
         slot: slot as usize,
@@ -76,7 +76,7 @@ pub extern "C" fn moss_byte_map_occupied_remove(
     slot: u64,
     key: &[u8],
 ) -> Numbers
-    ensures { told result (after marks offsets lengths values arena) ≡ taken_of maps (before marks offsets lengths values arena) slot key.now }
+    ensures { told result (after marks.new offsets.new lengths.new values.new arena.new) ≡ taken_of maps (before marks.old offsets.old lengths.old values.old arena.old) slot key.now }
 {
     let handle = Occupied {
         slot: slot as usize,
@@ -95,7 +95,7 @@ pub extern "C" fn moss_byte_map_occupied_remove_entry(
     slot: u64,
     key: &[u8],
 ) -> Numbers
-    ensures { told result (after marks offsets lengths values arena) ≡ taken_of maps (before marks offsets lengths values arena) slot key.now }
+    ensures { told result (after marks.new offsets.new lengths.new values.new arena.new) ≡ taken_of maps (before marks.old offsets.old lengths.old values.old arena.old) slot key.now }
 {
     let handle = Occupied {
         slot: slot as usize,
@@ -115,7 +115,7 @@ pub extern "C" fn moss_byte_map_vacant_insert(
     key: &[u8],
     value: u64,
 ) -> Numbers
-    ensures { told result (after marks offsets lengths values arena) ≡ vacant_insert_of maps (before marks offsets lengths values arena) slot key.now value }
+    ensures { told result (after marks.new offsets.new lengths.new values.new arena.new) ≡ vacant_insert_of maps (before marks.old offsets.old lengths.old values.old arena.old) slot key.now value }
 {
     let handle = Vacant {
         slot: slot as usize,
@@ -136,7 +136,7 @@ pub extern "C" fn moss_byte_map_or_insert(
     key: &[u8],
     default: u64,
 ) -> Numbers
-    ensures { told result (after marks offsets lengths values arena) ≡ or_insert_of maps (before marks offsets lengths values arena) (handle_as (length marks.old) case slot) key.now default }
+    ensures { told result (after marks.new offsets.new lengths.new values.new arena.new) ≡ or_insert_of maps (before marks.old offsets.old lengths.old values.old arena.old) (handle_as (length marks.old) case slot) key.now default }
 {
     let handle = entry_by_case(case, slot);
     in_slot_numbers(handle.or_insert(marks, offsets, lengths, values, arena, key, default))
@@ -155,7 +155,7 @@ pub extern "C" fn moss_byte_map_insert_entry(
     key: &[u8],
     value: u64,
 ) -> Numbers
-    ensures { told result (after marks offsets lengths values arena) ≡ insert_entry_of maps (before marks offsets lengths values arena) (handle_as (length marks.old) case slot) key.now value }
+    ensures { told result (after marks.new offsets.new lengths.new values.new arena.new) ≡ insert_entry_of maps (before marks.old offsets.old lengths.old values.old arena.old) (handle_as (length marks.old) case slot) key.now value }
 {
     let handle = entry_by_case(case, slot);
     in_slot_numbers(handle.insert_entry(marks, offsets, lengths, values, arena, key, value))

@@ -21,7 +21,7 @@ pub extern "C" fn moss_byte_map_make(
     values: &mut [u64],
     arena: &mut [u8],
 ) -> Numbers
-    ensures { told result (after marks offsets lengths values arena) ≡ make_of maps (before marks offsets lengths values arena) }
+    ensures { told result (after marks.new offsets.new lengths.new values.new arena.new) ≡ make_of maps (before marks.old offsets.old lengths.old values.old arena.old) }
 {
     outcome_numbers(byte_map::make(marks, offsets, lengths, values, arena))
 }
@@ -35,7 +35,7 @@ pub extern "C" fn moss_byte_map_clear(
     values: &mut [u64],
     arena: &mut [u8],
 ) -> Numbers
-    ensures { told result (after marks offsets lengths values arena) ≡ make_of maps (before marks offsets lengths values arena) }
+    ensures { told result (after marks.new offsets.new lengths.new values.new arena.new) ≡ make_of maps (before marks.old offsets.old lengths.old values.old arena.old) }
 {
     outcome_numbers(byte_map::clear(marks, offsets, lengths, values, arena))
 }
@@ -49,7 +49,7 @@ pub extern "C" fn moss_byte_map_capacity(
     values: &[u64],
     arena: &[u8],
 ) -> Numbers
-    ensures { result ≡ capacity_of maps (before marks offsets lengths values arena) }
+    ensures { result ≡ capacity_of maps (before marks.now offsets.now lengths.now values.now arena.now) }
 {
     counted_numbers(byte_map_reads::capacity(marks, offsets, lengths, values, arena))
 }
@@ -63,7 +63,7 @@ pub extern "C" fn moss_byte_map_len(
     values: &[u64],
     arena: &[u8],
 ) -> Numbers
-    ensures { result ≡ len_of maps (before marks offsets lengths values arena) }
+    ensures { result ≡ len_of maps (before marks.now offsets.now lengths.now values.now arena.now) }
 {
     counted_numbers(byte_map_reads::len(marks, offsets, lengths, values, arena))
 }
@@ -77,7 +77,7 @@ pub extern "C" fn moss_byte_map_is_empty(
     values: &[u64],
     arena: &[u8],
 ) -> Numbers
-    ensures { result ≡ is_empty_of maps (before marks offsets lengths values arena) }
+    ensures { result ≡ is_empty_of maps (before marks.now offsets.now lengths.now values.now arena.now) }
 {
     emptiness_numbers(byte_map_reads::is_empty(marks, offsets, lengths, values, arena))
 }
@@ -93,7 +93,7 @@ pub extern "C" fn moss_byte_map_reserve(
     keys: u64,
     bytes: u64,
 ) -> Numbers
-    ensures { result ≡ reserve_of maps (before marks offsets lengths values arena) keys bytes }
+    ensures { result ≡ reserve_of maps (before marks.now offsets.now lengths.now values.now arena.now) keys bytes }
 {
     reserved_numbers(byte_map_reads::reserve(marks, offsets, lengths, values, arena, keys, bytes))
 }
@@ -108,7 +108,7 @@ pub extern "C" fn moss_byte_map_get(
     arena: &[u8],
     key: &[u8],
 ) -> Numbers
-    ensures { result ≡ get_of maps (before marks offsets lengths values arena) key.now }
+    ensures { result ≡ get_of maps (before marks.now offsets.now lengths.now values.now arena.now) key.now }
 {
     got_numbers(byte_map_reads::get(marks, offsets, lengths, values, arena, key))
 }
@@ -123,7 +123,7 @@ pub extern "C" fn moss_byte_map_contains_key(
     arena: &[u8],
     key: &[u8],
 ) -> Numbers
-    ensures { result ≡ contains_of maps (before marks offsets lengths values arena) key.now }
+    ensures { result ≡ contains_of maps (before marks.now offsets.now lengths.now values.now arena.now) key.now }
 {
     contained_numbers(byte_map_reads::contains_key(marks, offsets, lengths, values, arena, key))
 }
@@ -139,7 +139,7 @@ pub extern "C" fn moss_byte_map_insert(
     key: &[u8],
     value: u64,
 ) -> Numbers
-    ensures { told result (after marks offsets lengths values arena) ≡ insert_of (before marks offsets lengths values arena) key.now value }
+    ensures { told result (after marks.new offsets.new lengths.new values.new arena.new) ≡ insert_of (before marks.old offsets.old lengths.old values.old arena.old) key.now value }
 {
     stored_numbers(byte_map::insert(marks, offsets, lengths, values, arena, key, value))
 }
@@ -154,7 +154,7 @@ pub extern "C" fn moss_byte_map_remove(
     arena: &mut [u8],
     key: &[u8],
 ) -> Numbers
-    ensures { told result (after marks offsets lengths values arena) ≡ remove_of maps (before marks offsets lengths values arena) key.now }
+    ensures { told result (after marks.new offsets.new lengths.new values.new arena.new) ≡ remove_of maps (before marks.old offsets.old lengths.old values.old arena.old) key.now }
 {
     removed_numbers(byte_map::remove(marks, offsets, lengths, values, arena, key))
 }
@@ -173,7 +173,7 @@ pub extern "C" fn moss_byte_map_copy(
     values: &[u64],
     arena: &[u8],
 ) -> Numbers
-    ensures { told result (after to_marks to_offsets to_lengths to_values to_arena) ≡ copy_of maps (before to_marks to_offsets to_lengths to_values to_arena) (before marks offsets lengths values arena) }
+    ensures { told result (after to_marks.new to_offsets.new to_lengths.new to_values.new to_arena.new) ≡ copy_of maps (before to_marks.old to_offsets.old to_lengths.old to_values.old to_arena.old) (before marks.now offsets.now lengths.now values.now arena.now) }
 {
     outcome_numbers(byte_map::copy(
         to_marks, to_offsets, to_lengths, to_values, to_arena, marks, offsets, lengths, values,
@@ -195,7 +195,7 @@ pub extern "C" fn moss_byte_map_union_prefer_right(
     right_values: &[u64],
     right_arena: &[u8],
 ) -> Numbers
-    ensures { told result (after marks offsets lengths values arena) ≡ union_of maps (before marks offsets lengths values arena) (before right_marks right_offsets right_lengths right_values right_arena) }
+    ensures { told result (after marks.new offsets.new lengths.new values.new arena.new) ≡ union_of maps (before marks.old offsets.old lengths.old values.old arena.old) (before right_marks.now right_offsets.now right_lengths.now right_values.now right_arena.now) }
 {
     outcome_numbers(byte_map_union::union_prefer_right(
         marks,
@@ -230,7 +230,7 @@ pub extern "C" fn moss_byte_map_step(
     walk: u64,
     budget: u64,
 ) -> Numbers
-    ensures { result ≡ step_of (before marks offsets lengths values arena) walk budget }
+    ensures { result ≡ step_of (before marks.now offsets.now lengths.now values.now arena.now) walk budget }
 {
     let from = Walk { at: walk as usize };
     step_numbers(from.step(marks, offsets, lengths, values, arena, budget))
@@ -247,7 +247,7 @@ pub extern "C" fn moss_byte_map_walk_on(
     walk: &mut u64,
     budget: u64,
 ) -> Numbers
-    ensures { told result walk.new ≡ moved_on (step_of (before marks offsets lengths values arena) walk.old budget) }
+    ensures { told result walk.new ≡ moved_on (step_of (before marks.now offsets.now lengths.now values.now arena.now) walk.old budget) }
 {
     let r = moss_byte_map_step(marks, offsets, lengths, values, arena, *walk, budget);
     *walk = r.walk;

@@ -20,7 +20,7 @@ pub extern "C" fn moss_byte_set_make(
     lengths: &mut [u8],
     arena: &mut [u8],
 ) -> Numbers
-    ensures { told result (after marks offsets lengths arena) ≡ make_of sets (before marks offsets lengths arena) }
+    ensures { told result (after marks.new offsets.new lengths.new arena.new) ≡ make_of sets (before marks.old offsets.old lengths.old arena.old) }
 {
     outcome_numbers(byte_set::make(marks, offsets, lengths, arena))
 }
@@ -33,7 +33,7 @@ pub extern "C" fn moss_byte_set_clear(
     lengths: &mut [u8],
     arena: &mut [u8],
 ) -> Numbers
-    ensures { told result (after marks offsets lengths arena) ≡ make_of sets (before marks offsets lengths arena) }
+    ensures { told result (after marks.new offsets.new lengths.new arena.new) ≡ make_of sets (before marks.old offsets.old lengths.old arena.old) }
 {
     outcome_numbers(byte_set::clear(marks, offsets, lengths, arena))
 }
@@ -46,7 +46,7 @@ pub extern "C" fn moss_byte_set_capacity(
     lengths: &[u8],
     arena: &[u8],
 ) -> Numbers
-    ensures { result ≡ capacity_of sets (before marks offsets lengths arena) }
+    ensures { result ≡ capacity_of sets (before marks.now offsets.now lengths.now arena.now) }
 {
     counted_numbers(byte_set_reads::capacity(marks, offsets, lengths, arena))
 }
@@ -59,7 +59,7 @@ pub extern "C" fn moss_byte_set_len(
     lengths: &[u8],
     arena: &[u8],
 ) -> Numbers
-    ensures { result ≡ len_of sets (before marks offsets lengths arena) }
+    ensures { result ≡ len_of sets (before marks.now offsets.now lengths.now arena.now) }
 {
     counted_numbers(byte_set_reads::len(marks, offsets, lengths, arena))
 }
@@ -72,7 +72,7 @@ pub extern "C" fn moss_byte_set_is_empty(
     lengths: &[u8],
     arena: &[u8],
 ) -> Numbers
-    ensures { result ≡ is_empty_of sets (before marks offsets lengths arena) }
+    ensures { result ≡ is_empty_of sets (before marks.now offsets.now lengths.now arena.now) }
 {
     emptiness_numbers(byte_set_reads::is_empty(marks, offsets, lengths, arena))
 }
@@ -87,7 +87,7 @@ pub extern "C" fn moss_byte_set_reserve(
     keys: u64,
     bytes: u64,
 ) -> Numbers
-    ensures { result ≡ reserve_of sets (before marks offsets lengths arena) keys bytes }
+    ensures { result ≡ reserve_of sets (before marks.now offsets.now lengths.now arena.now) keys bytes }
 {
     reserved_numbers(byte_set_reads::reserve(marks, offsets, lengths, arena, keys, bytes))
 }
@@ -101,7 +101,7 @@ pub extern "C" fn moss_byte_set_get(
     arena: &[u8],
     key: &[u8],
 ) -> Numbers
-    ensures { result ≡ set_get_of (before marks offsets lengths arena) key.now }
+    ensures { result ≡ set_get_of (before marks.now offsets.now lengths.now arena.now) key.now }
 {
     spanned_numbers(byte_set_reads::get(marks, offsets, lengths, arena, key))
 }
@@ -115,7 +115,7 @@ pub extern "C" fn moss_byte_set_contains(
     arena: &[u8],
     key: &[u8],
 ) -> Numbers
-    ensures { result ≡ contains_of sets (before marks offsets lengths arena) key.now }
+    ensures { result ≡ contains_of sets (before marks.now offsets.now lengths.now arena.now) key.now }
 {
     contained_numbers(byte_set_reads::contains(marks, offsets, lengths, arena, key))
 }
@@ -129,7 +129,7 @@ pub extern "C" fn moss_byte_set_insert(
     arena: &mut [u8],
     key: &[u8],
 ) -> Numbers
-    ensures { told result (after marks offsets lengths arena) ≡ set_insert_of (before marks offsets lengths arena) key.now }
+    ensures { told result (after marks.new offsets.new lengths.new arena.new) ≡ set_insert_of (before marks.old offsets.old lengths.old arena.old) key.now }
 {
     joined_numbers(byte_set::insert(marks, offsets, lengths, arena, key))
 }
@@ -143,7 +143,7 @@ pub extern "C" fn moss_byte_set_remove(
     arena: &mut [u8],
     key: &[u8],
 ) -> Numbers
-    ensures { told result (after marks offsets lengths arena) ≡ dropped_of sets (before marks offsets lengths arena) key.now }
+    ensures { told result (after marks.new offsets.new lengths.new arena.new) ≡ dropped_of sets (before marks.old offsets.old lengths.old arena.old) key.now }
 {
     dropped_numbers(byte_set::remove(marks, offsets, lengths, arena, key))
 }
@@ -160,7 +160,7 @@ pub extern "C" fn moss_byte_set_copy(
     lengths: &[u8],
     arena: &[u8],
 ) -> Numbers
-    ensures { told result (after to_marks to_offsets to_lengths to_arena) ≡ copy_of sets (before to_marks to_offsets to_lengths to_arena) (before marks offsets lengths arena) }
+    ensures { told result (after to_marks.new to_offsets.new to_lengths.new to_arena.new) ≡ copy_of sets (before to_marks.old to_offsets.old to_lengths.old to_arena.old) (before marks.now offsets.now lengths.now arena.now) }
 {
     outcome_numbers(byte_set::copy(
         to_marks, to_offsets, to_lengths, to_arena, marks, offsets, lengths, arena,
@@ -185,7 +185,7 @@ pub extern "C" fn moss_byte_set_step(
     walk: u64,
     budget: u64,
 ) -> Numbers
-    ensures { result ≡ set_step_of (before marks offsets lengths arena) walk budget }
+    ensures { result ≡ set_step_of (before marks.now offsets.now lengths.now arena.now) walk budget }
 {
     let from = Walk { at: walk as usize };
     step_numbers(from.step(marks, offsets, lengths, arena, budget))
@@ -201,7 +201,7 @@ pub extern "C" fn moss_byte_set_walk_on(
     walk: &mut u64,
     budget: u64,
 ) -> Numbers
-    ensures { told result walk.new ≡ moved_on (set_step_of (before marks offsets lengths arena) walk.old budget) }
+    ensures { told result walk.new ≡ moved_on (set_step_of (before marks.now offsets.now lengths.now arena.now) walk.old budget) }
 {
     let r = moss_byte_set_step(marks, offsets, lengths, arena, *walk, budget);
     *walk = r.walk;

@@ -21,7 +21,7 @@ pub extern "C" fn moss_int_map_entry(
     values: &[u64],
     key: u64,
 ) -> Numbers
-    ensures { result ≡ entry_of maps (before marks keys values) key }
+    ensures { result ≡ entry_of maps (before marks.now keys.now values.now) key }
 {
     entered_numbers(int_map_entry::entry(marks, keys, values, key))
 }
@@ -35,7 +35,7 @@ pub extern "C" fn moss_int_map_occupied_get(
     slot: u64,
     key: u64,
 ) -> Numbers
-    ensures { result ≡ held_of maps (before marks keys values) slot key }
+    ensures { result ≡ held_of maps (before marks.now keys.now values.now) slot key }
 {
     let handle = Occupied {
         slot: slot as usize,
@@ -53,7 +53,7 @@ pub extern "C" fn moss_int_map_occupied_set(
     key: u64,
     value: u64,
 ) -> Numbers
-    ensures { told result (after marks keys values) ≡ set_of maps (before marks keys values) slot key value }
+    ensures { told result (after marks.new keys.new values.new) ≡ set_of maps (before marks.old keys.old values.old) slot key value }
 {
     let handle = Occupied {
         slot: slot as usize,
@@ -70,7 +70,7 @@ pub extern "C" fn moss_int_map_occupied_remove(
     slot: u64,
     key: u64,
 ) -> Numbers
-    ensures { told result (after marks keys values) ≡ taken_of maps (before marks keys values) slot key }
+    ensures { told result (after marks.new keys.new values.new) ≡ taken_of maps (before marks.old keys.old values.old) slot key }
 {
     let handle = Occupied {
         slot: slot as usize,
@@ -87,7 +87,7 @@ pub extern "C" fn moss_int_map_occupied_remove_entry(
     slot: u64,
     key: u64,
 ) -> Numbers
-    ensures { told result (after marks keys values) ≡ remove_entry_of (before marks keys values) slot key }
+    ensures { told result (after marks.new keys.new values.new) ≡ remove_entry_of (before marks.old keys.old values.old) slot key }
 {
     let handle = Occupied {
         slot: slot as usize,
@@ -105,7 +105,7 @@ pub extern "C" fn moss_int_map_vacant_insert(
     key: u64,
     value: u64,
 ) -> Numbers
-    ensures { told result (after marks keys values) ≡ vacant_insert_of maps (before marks keys values) slot key value }
+    ensures { told result (after marks.new keys.new values.new) ≡ vacant_insert_of maps (before marks.old keys.old values.old) slot key value }
 {
     let handle = Vacant {
         slot: slot as usize,
@@ -124,7 +124,7 @@ pub extern "C" fn moss_int_map_or_insert(
     key: u64,
     default: u64,
 ) -> Numbers
-    ensures { told result (after marks keys values) ≡ or_insert_of maps (before marks keys values) (handle_as (length marks.old) case slot) key default }
+    ensures { told result (after marks.new keys.new values.new) ≡ or_insert_of maps (before marks.old keys.old values.old) (handle_as (length marks.old) case slot) key default }
 {
     let handle = entry_by_case(case, slot);
     in_slot_numbers(handle.or_insert(marks, keys, values, key, default))
@@ -141,7 +141,7 @@ pub extern "C" fn moss_int_map_insert_entry(
     key: u64,
     value: u64,
 ) -> Numbers
-    ensures { told result (after marks keys values) ≡ insert_entry_of maps (before marks keys values) (handle_as (length marks.old) case slot) key value }
+    ensures { told result (after marks.new keys.new values.new) ≡ insert_entry_of maps (before marks.old keys.old values.old) (handle_as (length marks.old) case slot) key value }
 {
     let handle = entry_by_case(case, slot);
     in_slot_numbers(handle.insert_entry(marks, keys, values, key, value))

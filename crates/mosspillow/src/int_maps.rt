@@ -20,7 +20,7 @@ pub extern "C" fn moss_int_map_make(
     keys: &mut [u64],
     values: &mut [u64],
 ) -> Numbers
-    ensures { told result (after marks keys values) ≡ make_of maps (before marks keys values) }
+    ensures { told result (after marks.new keys.new values.new) ≡ make_of maps (before marks.old keys.old values.old) }
 {
     outcome_numbers(int_map::make(marks, keys, values))
 }
@@ -32,7 +32,7 @@ pub extern "C" fn moss_int_map_clear(
     keys: &mut [u64],
     values: &mut [u64],
 ) -> Numbers
-    ensures { told result (after marks keys values) ≡ make_of maps (before marks keys values) }
+    ensures { told result (after marks.new keys.new values.new) ≡ make_of maps (before marks.old keys.old values.old) }
 {
     outcome_numbers(int_map::clear(marks, keys, values))
 }
@@ -40,7 +40,7 @@ pub extern "C" fn moss_int_map_clear(
 // The number of slots.
 #[unsafe(no_mangle)]
 pub extern "C" fn moss_int_map_capacity(marks: &[u8], keys: &[u64], values: &[u64]) -> Numbers
-    ensures { result ≡ capacity_of maps (before marks keys values) }
+    ensures { result ≡ capacity_of maps (before marks.now keys.now values.now) }
 {
     counted_numbers(int_map_reads::capacity(marks, keys, values))
 }
@@ -48,7 +48,7 @@ pub extern "C" fn moss_int_map_capacity(marks: &[u8], keys: &[u64], values: &[u6
 // The number of keys.
 #[unsafe(no_mangle)]
 pub extern "C" fn moss_int_map_len(marks: &[u8], keys: &[u64], values: &[u64]) -> Numbers
-    ensures { result ≡ len_of maps (before marks keys values) }
+    ensures { result ≡ len_of maps (before marks.now keys.now values.now) }
 {
     counted_numbers(int_map_reads::len(marks, keys, values))
 }
@@ -56,7 +56,7 @@ pub extern "C" fn moss_int_map_len(marks: &[u8], keys: &[u64], values: &[u64]) -
 // Whether there is no key.
 #[unsafe(no_mangle)]
 pub extern "C" fn moss_int_map_is_empty(marks: &[u8], keys: &[u64], values: &[u64]) -> Numbers
-    ensures { result ≡ is_empty_of maps (before marks keys values) }
+    ensures { result ≡ is_empty_of maps (before marks.now keys.now values.now) }
 {
     emptiness_numbers(int_map_reads::is_empty(marks, keys, values))
 }
@@ -69,7 +69,7 @@ pub extern "C" fn moss_int_map_reserve(
     values: &[u64],
     asked: u64,
 ) -> Numbers
-    ensures { result ≡ reserve_of maps (before marks keys values) asked 0 }
+    ensures { result ≡ reserve_of maps (before marks.now keys.now values.now) asked 0 }
 {
     reserved_numbers(int_map_reads::reserve(marks, keys, values, asked))
 }
@@ -77,7 +77,7 @@ pub extern "C" fn moss_int_map_reserve(
 // The value of a key.
 #[unsafe(no_mangle)]
 pub extern "C" fn moss_int_map_get(marks: &[u8], keys: &[u64], values: &[u64], key: u64) -> Numbers
-    ensures { result ≡ get_of maps (before marks keys values) key }
+    ensures { result ≡ get_of maps (before marks.now keys.now values.now) key }
 {
     got_numbers(int_map_reads::get(marks, keys, values, key))
 }
@@ -90,7 +90,7 @@ pub extern "C" fn moss_int_map_contains_key(
     values: &[u64],
     key: u64,
 ) -> Numbers
-    ensures { result ≡ contains_of maps (before marks keys values) key }
+    ensures { result ≡ contains_of maps (before marks.now keys.now values.now) key }
 {
     contained_numbers(int_map_reads::contains_key(marks, keys, values, key))
 }
@@ -104,7 +104,7 @@ pub extern "C" fn moss_int_map_insert(
     key: u64,
     value: u64,
 ) -> Numbers
-    ensures { told result (after marks keys values) ≡ insert_of (before marks keys values) key value }
+    ensures { told result (after marks.new keys.new values.new) ≡ insert_of (before marks.old keys.old values.old) key value }
 {
     inserted_numbers(int_map::insert(marks, keys, values, key, value))
 }
@@ -117,7 +117,7 @@ pub extern "C" fn moss_int_map_remove(
     values: &mut [u64],
     key: u64,
 ) -> Numbers
-    ensures { told result (after marks keys values) ≡ remove_of maps (before marks keys values) key }
+    ensures { told result (after marks.new keys.new values.new) ≡ remove_of maps (before marks.old keys.old values.old) key }
 {
     removed_numbers(int_map::remove(marks, keys, values, key))
 }
@@ -132,7 +132,7 @@ pub extern "C" fn moss_int_map_copy(
     keys: &[u64],
     values: &[u64],
 ) -> Numbers
-    ensures { told result (after to_marks to_keys to_values) ≡ copy_of maps (before to_marks to_keys to_values) (before marks keys values) }
+    ensures { told result (after to_marks.new to_keys.new to_values.new) ≡ copy_of maps (before to_marks.old to_keys.old to_values.old) (before marks.now keys.now values.now) }
 {
     outcome_numbers(int_map::copy(to_marks, to_keys, to_values, marks, keys, values))
 }
@@ -147,7 +147,7 @@ pub extern "C" fn moss_int_map_union_prefer_right(
     right_keys: &[u64],
     right_values: &[u64],
 ) -> Numbers
-    ensures { told result (after marks keys values) ≡ union_of maps (before marks keys values) (before right_marks right_keys right_values) }
+    ensures { told result (after marks.new keys.new values.new) ≡ union_of maps (before marks.old keys.old values.old) (before right_marks.now right_keys.now right_values.now) }
 {
     outcome_numbers(int_map_union::union_prefer_right(
         marks,
@@ -176,7 +176,7 @@ pub extern "C" fn moss_int_map_step(
     walk: u64,
     budget: u64,
 ) -> Numbers
-    ensures { result ≡ step_of (before marks keys values) walk budget }
+    ensures { result ≡ step_of (before marks.now keys.now values.now) walk budget }
 {
     let from = Walk { at: walk as usize };
     step_numbers(from.step(marks, keys, values, budget))
@@ -191,7 +191,7 @@ pub extern "C" fn moss_int_map_walk_on(
     walk: &mut u64,
     budget: u64,
 ) -> Numbers
-    ensures { told result walk.new ≡ moved_on (step_of (before marks keys values) walk.old budget) }
+    ensures { told result walk.new ≡ moved_on (step_of (before marks.now keys.now values.now) walk.old budget) }
 {
     let r = moss_int_map_step(marks, keys, values, *walk, budget);
     *walk = r.walk;

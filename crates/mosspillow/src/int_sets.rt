@@ -16,7 +16,7 @@ use int_set_walk::{Walk, step_numbers};
 // Makes an empty set of the lent arrays.
 #[unsafe(no_mangle)]
 pub extern "C" fn moss_int_set_make(marks: &mut [u8], keys: &mut [u64]) -> Numbers
-    ensures { told result (after marks keys) ≡ make_of sets (before marks keys) }
+    ensures { told result (after marks.new keys.new) ≡ make_of sets (before marks.old keys.old) }
 {
     outcome_numbers(int_set::make(marks, keys))
 }
@@ -24,7 +24,7 @@ pub extern "C" fn moss_int_set_make(marks: &mut [u8], keys: &mut [u64]) -> Numbe
 // Empties a set.
 #[unsafe(no_mangle)]
 pub extern "C" fn moss_int_set_clear(marks: &mut [u8], keys: &mut [u64]) -> Numbers
-    ensures { told result (after marks keys) ≡ make_of sets (before marks keys) }
+    ensures { told result (after marks.new keys.new) ≡ make_of sets (before marks.old keys.old) }
 {
     outcome_numbers(int_set::clear(marks, keys))
 }
@@ -32,7 +32,7 @@ pub extern "C" fn moss_int_set_clear(marks: &mut [u8], keys: &mut [u64]) -> Numb
 // The number of slots.
 #[unsafe(no_mangle)]
 pub extern "C" fn moss_int_set_capacity(marks: &[u8], keys: &[u64]) -> Numbers
-    ensures { result ≡ capacity_of sets (before marks keys) }
+    ensures { result ≡ capacity_of sets (before marks.now keys.now) }
 {
     counted_numbers(int_set_reads::capacity(marks, keys))
 }
@@ -40,7 +40,7 @@ pub extern "C" fn moss_int_set_capacity(marks: &[u8], keys: &[u64]) -> Numbers
 // The number of keys.
 #[unsafe(no_mangle)]
 pub extern "C" fn moss_int_set_len(marks: &[u8], keys: &[u64]) -> Numbers
-    ensures { result ≡ len_of sets (before marks keys) }
+    ensures { result ≡ len_of sets (before marks.now keys.now) }
 {
     counted_numbers(int_set_reads::len(marks, keys))
 }
@@ -48,7 +48,7 @@ pub extern "C" fn moss_int_set_len(marks: &[u8], keys: &[u64]) -> Numbers
 // Whether there is no key.
 #[unsafe(no_mangle)]
 pub extern "C" fn moss_int_set_is_empty(marks: &[u8], keys: &[u64]) -> Numbers
-    ensures { result ≡ is_empty_of sets (before marks keys) }
+    ensures { result ≡ is_empty_of sets (before marks.now keys.now) }
 {
     emptiness_numbers(int_set_reads::is_empty(marks, keys))
 }
@@ -56,7 +56,7 @@ pub extern "C" fn moss_int_set_is_empty(marks: &[u8], keys: &[u64]) -> Numbers
 // Whether so many slots are not live.
 #[unsafe(no_mangle)]
 pub extern "C" fn moss_int_set_reserve(marks: &[u8], keys: &[u64], asked: u64) -> Numbers
-    ensures { result ≡ reserve_of sets (before marks keys) asked 0 }
+    ensures { result ≡ reserve_of sets (before marks.now keys.now) asked 0 }
 {
     reserved_numbers(int_set_reads::reserve(marks, keys, asked))
 }
@@ -64,7 +64,7 @@ pub extern "C" fn moss_int_set_reserve(marks: &[u8], keys: &[u64], asked: u64) -
 // The key, where it is there.
 #[unsafe(no_mangle)]
 pub extern "C" fn moss_int_set_get(marks: &[u8], keys: &[u64], key: u64) -> Numbers
-    ensures { result ≡ set_get_of (before marks keys) key }
+    ensures { result ≡ set_get_of (before marks.now keys.now) key }
 {
     member_numbers(int_set_reads::get(marks, keys, key))
 }
@@ -72,7 +72,7 @@ pub extern "C" fn moss_int_set_get(marks: &[u8], keys: &[u64], key: u64) -> Numb
 // Whether a key is there.
 #[unsafe(no_mangle)]
 pub extern "C" fn moss_int_set_contains(marks: &[u8], keys: &[u64], key: u64) -> Numbers
-    ensures { result ≡ contains_of sets (before marks keys) key }
+    ensures { result ≡ contains_of sets (before marks.now keys.now) key }
 {
     contained_numbers(int_set_reads::contains(marks, keys, key))
 }
@@ -80,7 +80,7 @@ pub extern "C" fn moss_int_set_contains(marks: &[u8], keys: &[u64], key: u64) ->
 // Puts a key in.
 #[unsafe(no_mangle)]
 pub extern "C" fn moss_int_set_insert(marks: &mut [u8], keys: &mut [u64], key: u64) -> Numbers
-    ensures { told result (after marks keys) ≡ set_insert_of (before marks keys) key }
+    ensures { told result (after marks.new keys.new) ≡ set_insert_of (before marks.old keys.old) key }
 {
     added_numbers(int_set::insert(marks, keys, key))
 }
@@ -88,7 +88,7 @@ pub extern "C" fn moss_int_set_insert(marks: &mut [u8], keys: &mut [u64], key: u
 // Takes a key out.
 #[unsafe(no_mangle)]
 pub extern "C" fn moss_int_set_remove(marks: &mut [u8], keys: &mut [u64], key: u64) -> Numbers
-    ensures { told result (after marks keys) ≡ dropped_of sets (before marks keys) key }
+    ensures { told result (after marks.new keys.new) ≡ dropped_of sets (before marks.old keys.old) key }
 {
     dropped_numbers(int_set::remove(marks, keys, key))
 }
@@ -101,7 +101,7 @@ pub extern "C" fn moss_int_set_copy(
     marks: &[u8],
     keys: &[u64],
 ) -> Numbers
-    ensures { told result (after to_marks to_keys) ≡ copy_of sets (before to_marks to_keys) (before marks keys) }
+    ensures { told result (after to_marks.new to_keys.new) ≡ copy_of sets (before to_marks.old to_keys.old) (before marks.now keys.now) }
 {
     outcome_numbers(int_set::copy(to_marks, to_keys, marks, keys))
 }
@@ -117,7 +117,7 @@ pub extern "C" fn moss_int_set_walk_start() -> u64
 // One step of a walk with a budget of slots.
 #[unsafe(no_mangle)]
 pub extern "C" fn moss_int_set_step(marks: &[u8], keys: &[u64], walk: u64, budget: u64) -> Numbers
-    ensures { result ≡ set_step_of (before marks keys) walk budget }
+    ensures { result ≡ set_step_of (before marks.now keys.now) walk budget }
 {
     let from = Walk { at: walk as usize };
     step_numbers(from.step(marks, keys, budget))
@@ -131,7 +131,7 @@ pub extern "C" fn moss_int_set_walk_on(
     walk: &mut u64,
     budget: u64,
 ) -> Numbers
-    ensures { told result walk.new ≡ moved_on (set_step_of (before marks keys) walk.old budget) }
+    ensures { told result walk.new ≡ moved_on (set_step_of (before marks.now keys.now) walk.old budget) }
 {
     let r = moss_int_set_step(marks, keys, *walk, budget);
     *walk = r.walk;
