@@ -1,4 +1,5 @@
 -- The lent arrays of a byte set as the contracts name them. The crates of the byte set share it.
+use Rattle.std.specs.Prelude.{List, ℕ}
 use Rattle.kinds.specs.Columns.{nothing}
 use Rattle.byte_slots.specs.Memory.{ByteMemory}
 use Rattle.byte_slots.specs.Kinds.{set_memory}

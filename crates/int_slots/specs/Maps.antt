@@ -1,5 +1,5 @@
 -- An integer map as a store, and its lent arrays as the contracts name them. The crates of the integer map share it.
-use Rattle.std.specs.Prelude.{ℕ}
+use Rattle.std.specs.Prelude.{List, ℕ}
 use Rattle.model.specs.Store.{Store}
 use Rattle.kinds.specs.Columns.{values}
 use Rattle.int_slots.specs.Memory.{IntMemory, int_store, memory}
