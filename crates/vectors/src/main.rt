@@ -2,35 +2,32 @@
 #![tactic(auto)]
 
 use digest::digest;
-use io::{print_hex, write_all};
-use libc::STDOUT_FILENO;
+use std::io;
 
 // One line: the digest of these bytes, and how they are shown.
-fn line(bytes: &[u8], shown: &[u8]) {
-    print_hex(STDOUT_FILENO, digest(bytes), 16);
-    write_all(STDOUT_FILENO, b" \"");
-    write_all(STDOUT_FILENO, shown);
-    write_all(STDOUT_FILENO, b"\"\n");
+fn line(rt: &HostRuntime, bytes: &[u8], shown: &str) -> io::Result<()> {
+    let said = digest(bytes);
+    println!(rt; "{said:016x} \"{shown}\"")
 }
 
 // A line for bytes that are shown as they are.
-fn plain(bytes: &[u8]) {
-    line(bytes, bytes);
+fn plain(rt: &HostRuntime, text: &str) -> io::Result<()> {
+    line(rt, text.as_bytes(), text)
 }
 
-fn main() {
-    plain(b"");
-    plain(b"a");
-    plain(b"b");
-    plain(b"c");
-    plain(b"d");
-    plain(b"e");
-    plain(b"f");
-    plain(b"fo");
-    plain(b"foo");
-    plain(b"foob");
-    plain(b"fooba");
-    plain(b"foobar");
-    line(b"\0", b"\\0");
-    line(b"chongo was here!\n", b"chongo was here!\\n");
+fn main(rt: HostRuntime) -> io::Result<()> {
+    plain(&rt, "")?;
+    plain(&rt, "a")?;
+    plain(&rt, "b")?;
+    plain(&rt, "c")?;
+    plain(&rt, "d")?;
+    plain(&rt, "e")?;
+    plain(&rt, "f")?;
+    plain(&rt, "fo")?;
+    plain(&rt, "foo")?;
+    plain(&rt, "foob")?;
+    plain(&rt, "fooba")?;
+    plain(&rt, "foobar")?;
+    line(&rt, b"\0", "\\0")?;
+    line(&rt, b"chongo was here!\n", "chongo was here!\\n")
 }

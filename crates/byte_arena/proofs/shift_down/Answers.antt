@@ -1,0 +1,11 @@
+-- `byte_arena::shift_down` meets its contract. The invariant: the first i bytes moved down. Assumes nothing.
+use Prim.Native.Nat.{◌-◌}
+use borrow.Author.Rules.{rules}
+use Rattle.byte_arena.proofs.Lent.{Moving, moving_none, moving_more, moving_all}
+use Rattle.byte_arena.proofs.shift_down.Goals as goal
+
+pub loop-i-preserved : goal.loop-i-preserved
+loop-i-preserved c = moving_more _ _ _ _ _ _ (search rules) (search rules) (search rules) c.loop-i.invariant
+
+pub returns : goal.returns
+returns c = moving_all _ _ _ _ _ _ (search rules) (search rules) (search rules) c.loop-i.invariant

@@ -1,0 +1,23 @@
+-- `byte_set::insert` meets its contract: the first free slot takes a key that is not there, its bytes the offset `used`.
+use borrow.Author.Rules.{rules}
+use Rattle.model.specs.Calls.{stored_by}
+use Rattle.answers.specs.Numbers.{joined_numbers}
+use Rattle.answers.specs.Said.{joined_said}
+use Rattle.byte_slots.proofs.Calls.{set_insert_says}
+use Rattle.byte_arena.proofs.Plans.{plan_fillable}
+use Rattle.byte_set.proofs.Laws.{insert_fresh}
+use Rattle.byte_set.proofs.insert.Goals as goal
+
+pub fill-requires : goal.fill-requires
+fill-requires c = plan_fillable _ _ c.plan_insert-plan.ensures c.in-Free.is
+
+pub returns-in-Hit : goal.returns-in-Hit
+unfolding joined_numbers joined_said stored_by
+returns-in-Hit c = set_insert_says _ _ c.plan_insert-plan.ensures c.in-Hit.is
+
+pub returns-in-Free : goal.returns-in-Free
+returns-in-Free c = insert_fresh _ _ c.plan_insert-plan.ensures c.in-Free.is c.fill.ensures
+
+pub returns-in-Refused : goal.returns-in-Refused
+unfolding joined_numbers joined_said stored_by
+returns-in-Refused c = set_insert_says _ _ c.plan_insert-plan.ensures c.in-Refused.is

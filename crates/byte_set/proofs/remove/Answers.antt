@@ -1,0 +1,23 @@
+-- `byte_set::remove` meets its contract: the found slot is freed, and the gap in the arena closed.
+use borrow.Author.Rules.{rules}
+use Rattle.model.specs.Calls.{removed_by}
+use Rattle.answers.specs.Numbers.{dropped_numbers}
+use Rattle.answers.specs.Said.{dropped_said}
+use Rattle.byte_slots.proofs.Calls.{set_remove_says}
+use Rattle.byte_arena.proofs.Plans.{plan_freeable}
+use Rattle.byte_set.proofs.Laws.{remove_hit}
+use Rattle.byte_set.proofs.remove.Goals as goal
+
+pub free-requires : goal.free-requires
+free-requires c = plan_freeable _ _ c.plan_remove-plan.ensures c.in-Hit.is
+
+pub returns-in-Hit : goal.returns-in-Hit
+returns-in-Hit c = remove_hit _ _ c.plan_remove-plan.ensures c.in-Hit.is c.free.ensures
+
+pub returns-in-Absent : goal.returns-in-Absent
+unfolding dropped_numbers dropped_said removed_by
+returns-in-Absent c = set_remove_says _ _ c.plan_remove-plan.ensures c.in-Absent.is
+
+pub returns-in-Refused : goal.returns-in-Refused
+unfolding dropped_numbers dropped_said removed_by
+returns-in-Refused c = set_remove_says _ _ c.plan_remove-plan.ensures c.in-Refused.is

@@ -1,0 +1,12 @@
+-- `int_set_reads::capacity` meets its contract: refusal 1, or the number of slots.
+use borrow.Author.Rules.{rules}
+use Rattle.kinds.proofs.Sizing.{capacity_sized, capacity_unsized}
+use Rattle.int_slots.specs.Sets.{sets}
+use Rattle.int_slots.proofs.SetSizes.{fit, unfit}
+use Rattle.int_set_reads.proofs.capacity.Goals as goal
+
+pub returns-then-fits : goal.returns-then-fits
+returns-then-fits c = capacity_sized sets _ (fit _ _ c.fits.ensures c.if-fits.true)
+
+pub returns : goal.returns
+returns c = capacity_unsized sets _ (unfit _ _ c.fits.ensures c.if-fits.false)
