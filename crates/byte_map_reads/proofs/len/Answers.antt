@@ -4,10 +4,10 @@ use borrow.Author.Rules.{rules}
 use Rattle.byte_slots.specs.Kinds.{maps, sets}
 use Rattle.kinds.proofs.Beside.{len_beside}
 use Rattle.byte_map_reads.proofs.Laws.{as_set_law, len_short}
-use Rattle.byte_map_reads.proofs.len.Statement.{statement}
-use Rattle.byte_map_reads.proofs.len.Tie as tie
+use Rattle.byte_map_reads.proofs.len.Goals as goal
 
-pub len_spec : {M : Type 1} → statement M
-len_spec = tie.close (tie.spec
-    (λ c κs. search rules) (λ c. c.len.ensures ∙ len_beside maps sets (as_set_law _ c.before.if1.true))
-    (λ c. len_short _ c.if1.false))
+pub returns-then-marks-values : goal.returns-then-marks-values
+returns-then-marks-values c = c.len.ensures ∙ len_beside maps sets (as_set_law _ c.if-marks-values.true)
+
+pub returns : goal.returns
+returns c = len_short _ c.if-marks-values.false
