@@ -37,7 +37,7 @@ broken_stays (b ∷ bs) = broken_stays bs
 value_grows : (n : ℕ) (w : List ℕ) → n ≤ value_from n w
 unfolding value_from
 value_grows n [] = le_refl n
-value_grows n (b ∷ bs) = le_trans (omega arith) (value_grows _ bs)
+value_grows n (b ∷ bs) = le_trans (omega arith) (value_grows (n * 10 + (b - 48)) bs)
 
 -- The number n with the digits of w behind it, where that is a number.
 unfoldable within : ℕ → List ℕ → Option ℕ

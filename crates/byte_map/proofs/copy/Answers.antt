@@ -1,0 +1,21 @@
+-- `byte_map::copy` meets its contract: refusal 1, or every slot and byte is the other table's.
+use borrow.Author.Rules.{rules}
+use Rattle.kinds.proofs.Copying.{copy_arena, copy_slots, copy_from_unsized, copy_unsized}
+use Rattle.kinds.proofs.Sizing.{sized_as}
+use Rattle.byte_map.proofs.Laws.{copy_done}
+use Rattle.byte_map.proofs.copy.Goals as goal
+
+pub returns-then-to_arena-arena : goal.returns-then-to_arena-arena
+returns-then-to_arena-arena c = copy_arena _ _ _ c.if-to_arena-arena.true
+
+pub returns-then-to_marks-marks : goal.returns-then-to_marks-marks
+returns-then-to_marks-marks c = copy_done _ _ c.map_fits.ensures c.if-map_fits.true c.map_fits-then-map_fits.ensures c.if-map_fits-2.true c.if-to_marks-marks.true c.if-to_arena-arena.false c.copy_bytes.ensures c.copy_shorts.ensures c.copy_bytes-then-to_marks-marks.ensures c.copy_words.ensures c.copy_bytes-then-to_marks-marks-2.ensures
+
+pub returns-else-to_marks-marks : goal.returns-else-to_marks-marks
+returns-else-to_marks-marks c = copy_slots _ _ _ (sized_as _ _ c.map_fits.ensures c.if-map_fits.true) (sized_as _ _ c.map_fits-then-map_fits.ensures c.if-map_fits-2.true) c.if-to_marks-marks.false
+
+pub returns-else-map_fits-2 : goal.returns-else-map_fits-2
+returns-else-map_fits-2 c = copy_from_unsized _ _ _ (sized_as _ _ c.map_fits.ensures c.if-map_fits.true) (sized_as _ _ c.map_fits-then-map_fits.ensures c.if-map_fits-2.false)
+
+pub returns-else-map_fits : goal.returns-else-map_fits
+returns-else-map_fits c = copy_unsized _ _ _ (sized_as _ _ c.map_fits.ensures c.if-map_fits.false)

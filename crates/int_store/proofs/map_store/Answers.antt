@@ -1,0 +1,13 @@
+-- `int_store::map_store` meets its contract: the set's rule, then the value in the key's slot.
+use Rattle.int_store.proofs.Storing.{keys_sized, map_store_there, map_store_none}
+use borrow.Author.Rules.{rules}
+use Rattle.int_store.proofs.map_store.Goals as goal
+
+pub store-slot-requires : goal.store-slot-requires
+store-slot-requires c = keys_sized _ _ _ c.requires
+
+pub returns-then-slot-values : goal.returns-then-slot-values
+returns-then-slot-values c = map_store_there _ _ _ c.requires _ _ c.store-slot.ensures
+
+pub returns-else-slot-values : goal.returns-else-slot-values
+returns-else-slot-values c = map_store_none _ _ _ c.requires _ _ c.store-slot.ensures c.if-slot-values.false

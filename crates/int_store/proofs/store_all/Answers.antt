@@ -1,0 +1,15 @@
+-- `int_store::store_all` meets its contract. The loop's invariant: the keys of the slots passed are in. The measure is how many slots are left.
+use Prim.Native.Nat.{◌-◌}
+use Rattle.int_slots.specs.Sets.{memory}
+use Rattle.int_store.proofs.Storing.{Storing, store_start, store_more, store_end}
+use Rattle.kinds.proofs.Columns.{nothing_lawful}
+use Rattle.kinds.specs.Columns.{nothing}
+use lib.ListN.{length}
+use borrow.Author.Rules.{rules}
+use Rattle.int_store.proofs.store_all.Goals as goal
+
+pub loop-i-init : goal.loop-i-init
+loop-i-init c = store_start nothing _ _ c.requires.0
+
+pub loop-i-preserved : goal.loop-i-preserved
+loop-i-preserved c = store_more c.loop-i.invariant nothing_lawful c.loop-i-test.true c.store_slot.ensures (search rules) (search rules)
