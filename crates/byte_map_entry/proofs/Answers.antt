@@ -1,10 +1,10 @@
 -- The entry answer's own calls, by the occupied case taken out first and everything else as vacant.
+use Rattle.byte_map_vacant.specs.declared.Vacant.{Vacant}
 use Prim.Native.Nat.{ℕ}
 use mathlib.Core.List.{List}
 use mathlib.Core.Logic.{◌⊎◌, inl, inr}
 use mathlib.Core.Path.{◌≡◌, refl, sym, ap}
 use native.Mathlib.Omega.{arith}
-use denote.Enum.Declared.{tag_of}
 use lib.ListN.{length}
 use Rattle.model.specs.Calls.{Or, no, ok, give, on_occupied, on_vacant, occupied_get, or_insert, after_or_insert, insert_entry, after_insert_entry}
 use Rattle.answers.proofs.Told.{other_case}
@@ -26,24 +26,21 @@ use Rattle.byte_map_occupied.specs.declared.Swapped.TheVariants as swapped
 use Rattle.byte_map_occupied.specs.Numbers.{held_numbers, swapped_numbers}
 use Rattle.byte_map_vacant.specs.declared.InSlot.TheVariants as in_slot
 use Rattle.byte_map_vacant.specs.Numbers.{in_slot_numbers}
-use Rattle.byte_map_entry.specs.contracts.Entered.{the_type}
 use Rattle.byte_map_entry.specs.declared.Entered.{Entered}
 use Rattle.byte_map_entry.specs.declared.Entered.TheVariants as entered
 use Rattle.byte_map_entry.specs.Calls.{vacant_slot_of, handle_of}
 
 -- an answer that is not vacant counts as slot S
-pub vacant_other : (S : ℕ) (a : Entered) → (tag_of the_type a ≡ 0) ⊎ (tag_of the_type a ≡ 2) → S ≡ vacant_slot_of S a
+pub vacant_other : (S : ℕ) (a : Entered) → ((h : Vacant) (e : ℕ) → a ≡ entered.Vacant h e → ⊥) → S ≡ vacant_slot_of S a
 unfolding vacant_slot_of
 vacant_other S (entered.Occupied h v e) t = refl
-vacant_other S (entered.Vacant h e) (inl t) = let z : ⊥ = omega arith in absurd z
-vacant_other S (entered.Vacant h e) (inr t) = let z : ⊥ = omega arith in absurd z
+vacant_other S (entered.Vacant h e) t = absurd (t h e refl)
 vacant_other S (entered.Refused r) t = refl
 
 -- an answer that is not occupied is a vacant handle
-not_occupied : (S : ℕ) (a : Entered) → (tag_of the_type a ≡ 1) ⊎ (tag_of the_type a ≡ 2) → handle_of S a ≡ on_vacant (vacant_slot_of S a)
+not_occupied : (S : ℕ) (a : Entered) → ((h : Occupied) (v e : ℕ) → a ≡ entered.Occupied h v e → ⊥) → handle_of S a ≡ on_vacant (vacant_slot_of S a)
 unfolding handle_of vacant_slot_of
-not_occupied S (entered.Occupied h v e) (inl t) = let z : ⊥ = omega arith in absurd z
-not_occupied S (entered.Occupied h v e) (inr t) = let z : ⊥ = omega arith in absurd z
+not_occupied S (entered.Occupied h v e) t = absurd (t h v e refl)
 not_occupied S (entered.Vacant h e) t = refl
 not_occupied S (entered.Refused r) t = refl
 
@@ -70,7 +67,7 @@ swapped_no s (ok w) p q = other_case (rw q at p) refl
 
 module _ (m : ByteMemory values) (k : List ℕ) (v : ℕ) (a : Entered) where
   -- everything but occupied: the vacant handle's insert
-  module _ {s : ℕ} {n : Numbers} {m' : ByteMemory values} (t : (tag_of the_type a ≡ 1) ⊎ (tag_of the_type a ≡ 2)) (p : s ≡ vacant_slot_of (length m.spans.marks) a) (q : told n m' ≡ vacant_insert_of maps m s k v) where
+  module _ {s : ℕ} {n : Numbers} {m' : ByteMemory values} (t : (h : Occupied) (v e : ℕ) → a ≡ entered.Occupied h v e → ⊥) (p : s ≡ vacant_slot_of (length m.spans.marks) a) (q : told n m' ≡ vacant_insert_of maps m s k v) where
     pub or_insert_vacant : told n m' ≡ or_insert_of maps m (handle_of (length m.spans.marks) a) k v
     unfolding or_insert_of vacant_insert_of or_insert after_or_insert slot_of
     or_insert_vacant = rw (not_occupied (length m.spans.marks) a t, ← p) q

@@ -14,7 +14,7 @@ use byte_slots::{Surveyed, map_fits};
 use kinds::Sight;
 
 // A handle of a slot that holds a key.
-#[derive(Drop)]
+#[derive(Clone, Copy)]
 pub struct Occupied {
     pub slot: usize,
 }

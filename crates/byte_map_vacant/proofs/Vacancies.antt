@@ -65,26 +65,18 @@ pub vacancy_refused : (i : ℕ) {p : InsertPlan} {r x : Refusal} → p ≡ inser
 unfolding vacancy_by
 vacancy_refused i q e = rw (q, e)
 
--- one of the first six
-low : (n : ℕ) → (n ≡ 0) ⊎ ((n ≡ 1) ⊎ ((n ≡ 2) ⊎ ((n ≡ 3) ⊎ ((n ≡ 4) ⊎ (n ≡ 5))))) → n ≤ 5
-low n (inl e) = omega arith
-low n (inr (inl e)) = omega arith
-low n (inr (inr (inl e))) = omega arith
-low n (inr (inr (inr (inl e)))) = omega arith
-low n (inr (inr (inr (inr (inl e))))) = omega arith
-low n (inr (inr (inr (inr (inr e))))) = omega arith
 
 -- a refusal that is not 7 or 8 stays
-pub refusal_stays : (r : Refusal) → (tag_of the_type r ≡ 0) ⊎ ((tag_of the_type r ≡ 1) ⊎ ((tag_of the_type r ≡ 2) ⊎ ((tag_of the_type r ≡ 3) ⊎ ((tag_of the_type r ≡ 4) ⊎ (tag_of the_type r ≡ 5))))) → r ≡ handle_refusal r
+pub refusal_stays : (r : Refusal) → (r ≡ NoSlot → ⊥) → (r ≡ NoBytes → ⊥) → r ≡ handle_refusal r
 unfolding handle_refusal
-refusal_stays Sizes t = refl
-refusal_stays LongKey t = refl
-refusal_stays NoBudget t = refl
-refusal_stays WalkBeyond t = refl
-refusal_stays Damaged t = refl
-refusal_stays BadHandle t = refl
-refusal_stays NoSlot t = absurd (omega (arith, low 6 t))
-refusal_stays NoBytes t = absurd (omega (arith, low 7 t))
+refusal_stays Sizes a b = refl
+refusal_stays LongKey a b = refl
+refusal_stays NoBudget a b = refl
+refusal_stays WalkBeyond a b = refl
+refusal_stays Damaged a b = refl
+refusal_stays BadHandle a b = refl
+refusal_stays NoSlot a b = absurd (a refl)
+refusal_stays NoBytes a b = absurd (b refl)
 
 -- and so does a key's own
 kept_stays : (k : List ℕ) (r : Refusal) → keeping k ≡ kept.Refused r → handle_refusal r ≡ r

@@ -14,7 +14,7 @@ use byte_map_occupied::Occupied;
 use byte_slots::{InsertPlan, map_plan_insert};
 
 // A handle of the slot that a key would take.
-#[derive(Drop)]
+#[derive(Clone, Copy)]
 pub struct Vacant {
     pub slot: usize,
 }

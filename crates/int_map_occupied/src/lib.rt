@@ -14,7 +14,7 @@ ghost use Rattle.kinds.specs.Calls.{held_of, set_of, taken_of};
 use answers::{Numbers, REMOVED, Refusal, VALUE, WAS, case_numbers, refusal_numbers};
 
 // A handle of a slot that holds a key.
-#[derive(Drop)]
+#[derive(Clone, Copy)]
 pub struct Occupied {
     pub slot: usize,
 }

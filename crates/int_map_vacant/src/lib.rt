@@ -14,7 +14,7 @@ use int_map_occupied::Occupied;
 use kinds::Probed;
 
 // A handle of the slot that a key would take.
-#[derive(Drop)]
+#[derive(Clone, Copy)]
 pub struct Vacant {
     pub slot: usize,
 }
