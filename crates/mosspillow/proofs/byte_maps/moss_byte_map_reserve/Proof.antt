@@ -1,9 +1,0 @@
--- `moss_byte_map_reserve` meets its contract: its answer is that of the callee.
-use mathlib.Core.Path.{◌∙◌}
-use borrow.Author.Rules.{rules}
-use Rattle.mosspillow.proofs.byte_maps.moss_byte_map_reserve.Statement.{statement}
-use Rattle.mosspillow.proofs.byte_maps.moss_byte_map_reserve.Tie as tie
-
-pub moss-byte-map-reserve-spec : {M : Type 1} → statement M
-moss-byte-map-reserve-spec = tie.close (tie.spec
-    (λ c κs. search rules) (λ c κs. search rules) (λ c. c.reserved-numbers.ensures ∙ c.before.reserve.ensures))

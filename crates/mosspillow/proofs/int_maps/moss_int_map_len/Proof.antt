@@ -1,9 +1,0 @@
--- `moss_int_map_len` meets its contract: its answer is that of the callee.
-use mathlib.Core.Path.{◌∙◌}
-use borrow.Author.Rules.{rules}
-use Rattle.mosspillow.proofs.int_maps.moss_int_map_len.Statement.{statement}
-use Rattle.mosspillow.proofs.int_maps.moss_int_map_len.Tie as tie
-
-pub moss-int-map-len-spec : {M : Type 1} → statement M
-moss-int-map-len-spec = tie.close (tie.spec
-    (λ c κs. search rules) (λ c κs. search rules) (λ c. c.counted-numbers.ensures ∙ c.before.len.ensures))

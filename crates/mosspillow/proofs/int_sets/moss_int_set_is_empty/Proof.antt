@@ -1,9 +1,0 @@
--- `moss_int_set_is_empty` meets its contract: its answer is that of the callee.
-use mathlib.Core.Path.{◌∙◌}
-use borrow.Author.Rules.{rules}
-use Rattle.mosspillow.proofs.int_sets.moss_int_set_is_empty.Statement.{statement}
-use Rattle.mosspillow.proofs.int_sets.moss_int_set_is_empty.Tie as tie
-
-pub moss-int-set-is-empty-spec : {M : Type 1} → statement M
-moss-int-set-is-empty-spec = tie.close (tie.spec
-    (λ c κs. search rules) (λ c κs. search rules) (λ c. c.emptiness-numbers.ensures ∙ c.before.is_empty.ensures))
