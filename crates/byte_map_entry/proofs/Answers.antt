@@ -2,9 +2,7 @@
 use Rattle.byte_map_vacant.specs.declared.Vacant.{Vacant}
 use Prim.Native.Nat.{ℕ}
 use mathlib.Core.List.{List}
-use mathlib.Core.Logic.{◌⊎◌, inl, inr}
 use mathlib.Core.Path.{◌≡◌, refl, sym, ap}
-use native.Mathlib.Omega.{arith}
 use lib.ListN.{length}
 use Rattle.model.specs.Calls.{Or, no, ok, give, on_occupied, on_vacant, occupied_get, or_insert, after_or_insert, insert_entry, after_insert_entry}
 use Rattle.answers.proofs.Told.{other_case}

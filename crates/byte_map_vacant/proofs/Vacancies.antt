@@ -1,11 +1,8 @@
 -- Vacant handles: what insert's plan says of them, and what their insert tells and leaves by it.
-use Prim.Native.Nat.{ℕ, ◌≤◌, ◌<◌}
+use Prim.Native.Nat.{ℕ, ◌<◌}
 use mathlib.Core.Bool.{Bool, true, false}
 use mathlib.Core.List.{List}
-use mathlib.Core.Logic.{◌⊎◌, inl, inr}
 use mathlib.Core.Path.{◌≡◌, refl, sym, ◌∙◌}
-use native.Mathlib.Omega.{arith}
-use denote.Enum.Declared.{tag_of}
 use borrow.Author.Tests.{eq-eqb, ne_eqb}
 use lib.Dec.{eqb, ltb}
 use lib.ListN.{length, get_or, set}
@@ -15,7 +12,6 @@ use Rattle.model.proofs.Cases.{by_bool, by_eq, clash}
 use Rattle.digest.specs.Home.{home_of, key_fits}
 use Rattle.answers.specs.declared.Refusal.{Refusal}
 use Rattle.answers.specs.declared.Refusal.TheVariants.{Sizes, LongKey, NoBudget, WalkBeyond, Damaged, BadHandle, NoSlot, NoBytes}
-use Rattle.answers.specs.contracts.Refusal.{the_type}
 use Rattle.answers.specs.Refusals.{number_of}
 use Rattle.answers.specs.Said.{in_slot_said}
 use Rattle.kinds.specs.Calls.{vacant_insert_of}
@@ -64,7 +60,6 @@ vacancy_hit i q = rw q
 pub vacancy_refused : (i : ℕ) {p : InsertPlan} {r x : Refusal} → p ≡ insert_plan.Refused r → x ≡ handle_refusal r → Refused x ≡ vacancy_by i p
 unfolding vacancy_by
 vacancy_refused i q e = rw (q, e)
-
 
 -- a refusal that is not 7 or 8 stays
 pub refusal_stays : (r : Refusal) → (r ≡ NoSlot → ⊥) → (r ≡ NoBytes → ⊥) → r ≡ handle_refusal r

@@ -1,5 +1,5 @@
 -- The three demands for the published calls of any kind: the theory's theorems, through the calls that they carry out and the numbers that they tell.
-use Prim.Native.Nat.{ℕ, suc, ◌<◌}
+use Prim.Native.Nat.{ℕ, suc}
 use mathlib.Core.Bool.{true, false}
 use mathlib.Core.List.{List, [], ◌∷◌}
 use mathlib.Core.Option.{some}

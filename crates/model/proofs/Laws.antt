@@ -10,7 +10,7 @@ use mathlib.Core.Path.{◌≡◌, refl, sym, ◌∙◌, ap}
 use native.Mathlib.Omega.{arith}
 use borrow.Author.Tests.{lt-ltb, leb-true, leb-false, eqb-true, eq-eqb, not-true}
 use lib.Dec.{ltb, leb, eqb}
-use Rattle.model.specs.Slots.{never, damaged, frees, live, made, pairs, look}
+use Rattle.model.specs.Slots.{never, damaged, frees, live, made, pairs}
 use Rattle.model.specs.Path.{Find, hit, miss, damage, at, free_at}
 use Rattle.model.specs.Finite.{Finite, is_some, contains, member, mass, len, empty, insert, remove, firsts, finite_of}
 use Rattle.model.specs.Store.{Store, path, slot_at, path_length, live_count, used, damaged_slots}

@@ -2,7 +2,7 @@
 use Prim.Native.Nat.{ℕ, ◌≤◌, ◌<◌, max}
 use mathlib.Core.Bool.{Bool, true, false}
 use mathlib.Core.List.{List, ◌∷◌}
-use mathlib.Core.Logic.{◌⊎◌, inl, inr, ⊎_elim}
+use mathlib.Core.Logic.{inl, inr, ⊎_elim}
 use mathlib.Core.Path.{◌≡◌, refl, sym, ◌∙◌, subst}
 use native.Mathlib.Omega.{arith}
 use Rattle.model.proofs.Cases.{clash}
@@ -10,7 +10,7 @@ use Rattle.model.specs.Store.{Store}
 use Rattle.model.specs.Calls.{Or, no, ok, give, Seen, Spot, on_occupied, on_vacant, entry, stored_by, after_insert, put_spot, after_put, remove, removed_by, after_remove, acted, capacity, after_make, copy, after_copy, union, after_union, occupied_get, after_set, occupied_remove, after_drop, vacancy, vacant_insert, after_fill, or_insert, after_or_insert, insert_entry, after_insert_entry}
 use Rattle.model.specs.Machine.{Own, makes, clears, capacities, lens, empties, reserves, gets, contains_keys, removes, entries, inserts, puts, occupied_gets, occupied_removes, occupied_sets, vacant_inserts, or_inserts, insert_entries, Call, own, copies, unions, steps, Answer, fine, seen, spot, value, report, World, tells, leaves, answer, left}
 use Rattle.model.specs.Demand2.{refuses}
-use Rattle.model.specs.Demand1.{Row, row, First, none_applies, applies_here, goes_on, Applies, Least, Rising, rises_end, rises, KeyBar, refusal, rows}
+use Rattle.model.specs.Demand1.{Row, row, First, none_applies, applies_here, goes_on, Applies, Least, Rising, rises_end, rises, KeyBar, rows}
 
 rising_above : (rs : List Row) (a i : ℕ) → Rising a rs → Applies rs i → a < i
 rising_above rs a i rises_end x = absurd x

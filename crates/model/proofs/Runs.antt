@@ -1,6 +1,6 @@
 -- Lists of accepted calls, for demands 2 and 3: what is known after them is so, and a key that they do not remove on their way stays in its slot. And what a list of puts does.
 use Prim.Native.Nat.{ℕ, ◌<◌}
-use mathlib.Core.Bool.{Bool, true, false, cond, not, ◌&&◌}
+use mathlib.Core.Bool.{Bool, true, false, cond, ◌&&◌}
 use mathlib.Core.List.{List, [], ◌∷◌}
 use mathlib.Core.Option.{Option, none, some}
 use mathlib.Core.Path.{◌≡◌, refl, sym, ◌∙◌, ap, subst, fun_ext}
@@ -9,7 +9,7 @@ use lib.Dec.{eqb}
 use Rattle.model.specs.Slots.{live}
 use Rattle.model.specs.Finite.{Finite, is_some, insert, insert_all}
 use Rattle.model.specs.Store.{Store, path}
-use Rattle.model.specs.Calls.{ok, Spot, spot_by, put_spot, rule, store_all}
+use Rattle.model.specs.Calls.{ok, put_spot, rule, store_all}
 use Rattle.model.specs.Machine.{puts, Call, own, copies, report, World, placed, tells, leaves, answer, left, turned}
 use Rattle.model.specs.Demand2.{refuses, renews, grows, mapped, next, becomes, Book, booked}
 use Rattle.model.specs.Demand3.{look_in}

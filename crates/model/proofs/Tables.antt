@@ -2,7 +2,7 @@
 -- A call leaves a memory as it was, or changes one slot of it (`Changed`), or makes it anew. A changed slot keeps every other live key in its place,
 -- so a key that is still in the map stands where it stood (`Stood`). What is known of the maps is carried along by `left_shows`.
 use Prim.Native.Nat.{ℕ, zero, suc, ◌+◌, ◌≤◌, ◌<◌}
-use mathlib.Core.Bool.{Bool, true, false, cond, not, ◌&&◌}
+use mathlib.Core.Bool.{Bool, true, false, cond, ◌&&◌}
 use mathlib.Core.List.{List, [], ◌∷◌, ◌++◌}
 use mathlib.Core.Path.{◌≡◌, refl, sym, ◌∙◌, ap, subst}
 use mathlib.Core.Option.{Option, none, some}

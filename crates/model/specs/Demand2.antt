@@ -5,7 +5,7 @@ use Rattle.model.specs.Slots.{live, holds, pairs}
 use Rattle.model.specs.Finite.{Finite, contains, mass, len, empty, insert, remove, union_prefer_right, insert_all}
 use Rattle.model.specs.Store.{Store, path_length}
 use Rattle.model.specs.Calls.{no, ok, occupied, vacant, on_occupied, on_vacant, entry}
-use Rattle.model.specs.Machine.{Own, makes, clears, capacities, lens, empties, reserves, gets, contains_keys, removes, entries, inserts, puts, occupied_gets, occupied_removes, occupied_sets, vacant_inserts, or_inserts, insert_entries, Call, own, copies, unions, steps, Answer, refused, fine, number, truth, seen, spot, value, stepped, World, placed, answer, turned}
+use Rattle.model.specs.Machine.{Own, makes, clears, capacities, lens, empties, reserves, gets, contains_keys, removes, entries, inserts, puts, occupied_gets, occupied_removes, occupied_sets, vacant_inserts, or_inserts, insert_entries, Call, own, copies, unions, steps, Answer, refused, fine, number, truth, seen, spot, value, stepped, World, placed, turned}
 
 -- Whether an answer is a refusal.
 unfoldable pub refuses : {K W : Type 0} → Answer K W → Bool

@@ -1,5 +1,4 @@
 -- `answers::added_numbers` meets its contract: each arm hands over what the definition says.
-use borrow.Author.Rules.{rules}
 use Rattle.answers.specs.Numbers.{added_numbers}
 use Rattle.answers.proofs.added_numbers.Goals as goal
 

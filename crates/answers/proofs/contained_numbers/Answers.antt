@@ -1,5 +1,4 @@
 -- `answers::contained_numbers` meets its contract: each arm hands over what the definition says.
-use borrow.Author.Rules.{rules}
 use Rattle.answers.specs.Numbers.{contained_numbers}
 use Rattle.answers.proofs.contained_numbers.Goals as goal
 

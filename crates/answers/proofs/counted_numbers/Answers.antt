@@ -1,5 +1,4 @@
 -- `answers::counted_numbers` meets its contract: each arm hands over what the definition says.
-use borrow.Author.Rules.{rules}
 use Rattle.answers.specs.Numbers.{counted_numbers}
 use Rattle.answers.proofs.counted_numbers.Goals as goal
 

@@ -1,5 +1,4 @@
 -- `answers::dropped_numbers` meets its contract: each arm hands over what the definition says.
-use borrow.Author.Rules.{rules}
 use Rattle.answers.specs.Numbers.{dropped_numbers}
 use Rattle.answers.proofs.dropped_numbers.Goals as goal
 

@@ -1,5 +1,4 @@
 -- `answers::emptiness_numbers` meets its contract: each arm hands over what the definition says.
-use borrow.Author.Rules.{rules}
 use Rattle.answers.specs.Numbers.{emptiness_numbers}
 use Rattle.answers.proofs.emptiness_numbers.Goals as goal
 

@@ -1,5 +1,4 @@
 -- `answers::got_numbers` meets its contract: each arm hands over what the definition says.
-use borrow.Author.Rules.{rules}
 use Rattle.answers.specs.Numbers.{got_numbers}
 use Rattle.answers.proofs.got_numbers.Goals as goal
 

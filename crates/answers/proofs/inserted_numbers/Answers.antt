@@ -1,5 +1,4 @@
 -- `answers::inserted_numbers` meets its contract: each arm hands over what the definition says.
-use borrow.Author.Rules.{rules}
 use Rattle.answers.specs.Numbers.{inserted_numbers}
 use Rattle.answers.proofs.inserted_numbers.Goals as goal
 

@@ -1,5 +1,4 @@
 -- `answers::joined_numbers` meets its contract: each arm hands over what the definition says.
-use borrow.Author.Rules.{rules}
 use Rattle.answers.specs.Numbers.{joined_numbers}
 use Rattle.answers.proofs.joined_numbers.Goals as goal
 

@@ -1,5 +1,4 @@
 -- `answers::member_numbers` meets its contract: each arm hands over what the definition says.
-use borrow.Author.Rules.{rules}
 use Rattle.answers.specs.Numbers.{member_numbers}
 use Rattle.answers.proofs.member_numbers.Goals as goal
 

@@ -1,5 +1,4 @@
 -- `answers::outcome_numbers` meets its contract: each arm hands over what the definition says.
-use borrow.Author.Rules.{rules}
 use Rattle.answers.specs.Numbers.{outcome_numbers}
 use Rattle.answers.proofs.outcome_numbers.Goals as goal
 

@@ -1,5 +1,4 @@
 -- `answers::removed_numbers` meets its contract: each arm hands over what the definition says.
-use borrow.Author.Rules.{rules}
 use Rattle.answers.specs.Numbers.{removed_numbers}
 use Rattle.answers.proofs.removed_numbers.Goals as goal
 

@@ -1,5 +1,4 @@
 -- `answers::reserved_numbers` meets its contract: each arm hands over what the definition says.
-use borrow.Author.Rules.{rules}
 use Rattle.answers.specs.Numbers.{reserved_numbers}
 use Rattle.answers.proofs.reserved_numbers.Goals as goal
 

@@ -1,5 +1,4 @@
 -- `answers::spanned_numbers` meets its contract: each arm hands over what the definition says.
-use borrow.Author.Rules.{rules}
 use Rattle.answers.specs.Numbers.{spanned_numbers}
 use Rattle.answers.proofs.spanned_numbers.Goals as goal
 

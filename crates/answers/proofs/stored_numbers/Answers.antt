@@ -1,5 +1,4 @@
 -- `answers::stored_numbers` meets its contract: each arm hands over what the definition says.
-use borrow.Author.Rules.{rules}
 use Rattle.answers.specs.Numbers.{stored_numbers}
 use Rattle.answers.proofs.stored_numbers.Goals as goal
 

@@ -1,9 +1,7 @@
 -- `arrays::clear_shorts` meets its contract. The invariant: below i the array holds zeros. Assumes nothing.
 use Prim.Native.Nat.{◌-◌}
-use native.Mathlib.Omega.{arith}
-use borrow.Author.Rules.{rules}
 use lib.ListN.{length, replicate}
-use Rattle.arrays.proofs.Below.{Below, zero_none, zero_more, zero_long, zero_all}
+use Rattle.arrays.proofs.Below.{Below}
 use Rattle.arrays.proofs.clear_shorts.Given as goal
 
 abbrev pub invariant-loop-i : goal.invariant-loop-i

@@ -1,8 +1,6 @@
 -- `arrays::copy_bytes` meets its contract. The invariant: below i the array holds the other's elements. Assumes nothing.
 use Prim.Native.Nat.{◌-◌}
-use mathlib.Core.Path.{refl}
-use borrow.Author.Rules.{rules}
-use Rattle.arrays.proofs.Below.{Below, below_none, below_more, copied_all, copied_not}
+use Rattle.arrays.proofs.Below.{Below}
 use Rattle.arrays.proofs.copy_bytes.Given as goal
 
 abbrev pub invariant-loop-i : goal.invariant-loop-i

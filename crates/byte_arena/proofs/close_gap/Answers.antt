@@ -1,5 +1,4 @@
 -- `byte_arena::close_gap` meets its contract: the bytes behind the span move down, then those vacated are cleared. Assumes nothing.
-use borrow.Author.Rules.{rules}
 use Rattle.byte_arena.proofs.Lent.{closed_end}
 use Rattle.byte_arena.proofs.close_gap.Goals as goal
 

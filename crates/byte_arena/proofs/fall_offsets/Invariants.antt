@@ -1,7 +1,6 @@
 -- `byte_arena::fall_offsets` meets its contract. The invariant: the offsets of the first i slots fell, and the others wait. Assumes nothing.
 use Prim.Native.Nat.{◌-◌}
-use borrow.Author.Rules.{rules}
-use Rattle.byte_arena.proofs.Falling.{Falling, falling_none, falling_more, falling_all}
+use Rattle.byte_arena.proofs.Falling.{Falling}
 use Rattle.byte_arena.proofs.fall_offsets.Given as goal
 
 abbrev pub invariant-loop-i : goal.invariant-loop-i

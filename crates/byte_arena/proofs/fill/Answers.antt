@@ -1,5 +1,4 @@
 -- `byte_arena::fill` meets its contract: each list has what it is to have. Assumes nothing.
-use borrow.Author.Rules.{rules}
 use Rattle.byte_arena.proofs.Lists.{filled_lists}
 use Rattle.byte_arena.proofs.fill.Goals as goal
 

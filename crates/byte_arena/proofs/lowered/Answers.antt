@@ -1,5 +1,4 @@
 -- `byte_arena::lowered` meets its contract: a live offset from the end on falls, any other stays. Assumes nothing.
-use borrow.Author.Rules.{rules}
 use Rattle.byte_arena.proofs.Falling.{fall_live, fall_low, fall_dead}
 use Rattle.byte_arena.proofs.lowered.Goals as goal
 

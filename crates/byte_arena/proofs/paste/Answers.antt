@@ -1,5 +1,4 @@
 -- `byte_arena::paste` meets its contract: the part of the arena from the place on is copied over. Assumes nothing.
-use borrow.Author.Rules.{rules}
 use Rattle.byte_arena.proofs.Lent.{pasted_end}
 use Rattle.byte_arena.proofs.paste.Goals as goal
 

@@ -1,7 +1,6 @@
 -- `byte_arena::shift_down` meets its contract. The invariant: the first i bytes moved down. Assumes nothing.
-use Prim.Native.Nat.{◌-◌}
 use borrow.Author.Rules.{rules}
-use Rattle.byte_arena.proofs.Lent.{Moving, moving_none, moving_more, moving_all}
+use Rattle.byte_arena.proofs.Lent.{moving_more, moving_all}
 use Rattle.byte_arena.proofs.shift_down.Goals as goal
 
 pub loop-i-preserved : goal.loop-i-preserved

@@ -1,5 +1,4 @@
 -- `byte_arena::wipe` meets its contract: each list has zeros. Assumes nothing.
-use borrow.Author.Rules.{rules}
 use Rattle.byte_arena.proofs.Lists.{wiped_lists}
 use Rattle.byte_arena.proofs.wipe.Goals as goal
 

@@ -1,5 +1,4 @@
 -- `byte_map::insert` meets its contract: the value changes in the key's slot, or the first free slot takes the key.
-use borrow.Author.Rules.{rules}
 use native.Mathlib.Omega.{arith}
 use Rattle.model.specs.Calls.{stored_by}
 use Rattle.answers.specs.Numbers.{stored_numbers}

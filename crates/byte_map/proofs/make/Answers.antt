@@ -1,5 +1,4 @@
 -- `byte_map::make` meets its contract: refusal 1, or every mark, word and arena byte 0.
-use borrow.Author.Rules.{rules}
 use Rattle.kinds.proofs.Sizing.{sized_as, make_unsized}
 use Rattle.byte_map.proofs.Laws.{make_done}
 use Rattle.byte_map.proofs.make.Goals as goal

@@ -1,5 +1,4 @@
 -- `byte_map::remove` meets its contract: the found slot is freed, its words become 0, its gap is closed.
-use borrow.Author.Rules.{rules}
 use native.Mathlib.Omega.{arith}
 use Rattle.model.specs.Calls.{removed_by}
 use Rattle.answers.specs.Numbers.{removed_numbers}

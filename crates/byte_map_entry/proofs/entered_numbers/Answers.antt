@@ -1,6 +1,5 @@
 -- `entered_numbers` meets its contract: each arm hands over what the definition says.
 use Rattle.byte_map_entry.specs.Numbers.{entered_numbers}
-use borrow.Author.Rules.{rules}
 use Rattle.byte_map_entry.proofs.entered_numbers.Goals as goal
 
 pub returns-in-Occupied : goal.returns-in-Occupied

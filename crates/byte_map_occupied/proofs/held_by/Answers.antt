@@ -1,6 +1,5 @@
 -- `byte_map_occupied::held_by` meets its contract: one answer for each look.
 use Rattle.byte_map_occupied.specs.Planning.{held_by}
-use borrow.Author.Rules.{rules}
 use Rattle.byte_map_occupied.proofs.held_by.Goals as goal
 
 pub returns-in-Never : goal.returns-in-Never

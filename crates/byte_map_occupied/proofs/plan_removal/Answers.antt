@@ -1,7 +1,6 @@
 -- `byte_map_occupied::plan_removal` meets its contract: sizes, then the key, then every slot, then the handle's.
 use Rattle.byte_slots.proofs.MapSizes.{sized_fits, same_long}
 use Rattle.byte_map_occupied.proofs.Removals.{removal_unfit, removal_long, removal_bad, removal_slot}
-use borrow.Author.Rules.{rules}
 use Rattle.byte_map_occupied.proofs.plan_removal.Goals as goal
 
 pub survey-found-requires : goal.survey-found-requires

@@ -1,6 +1,5 @@
 -- `byte_map_occupied::removal_plan_by` meets its contract: the value with `used`, or the refusal.
 use Rattle.byte_map_occupied.specs.Planning.{removal_plan_by}
-use borrow.Author.Rules.{rules}
 use Rattle.byte_map_occupied.proofs.removal_plan_by.Goals as goal
 
 pub returns-in-Value : goal.returns-in-Value

@@ -1,6 +1,5 @@
 -- `swapped_numbers` meets its contract: each arm hands over what the definition says.
 use Rattle.byte_map_occupied.specs.Numbers.{swapped_numbers}
-use borrow.Author.Rules.{rules}
 use Rattle.byte_map_occupied.proofs.swapped_numbers.Goals as goal
 
 pub returns-in-Was : goal.returns-in-Was

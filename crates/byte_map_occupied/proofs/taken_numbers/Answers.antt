@@ -1,6 +1,5 @@
 -- `taken_numbers` meets its contract: each arm hands over what the definition says.
 use Rattle.byte_map_occupied.specs.Numbers.{taken_numbers}
-use borrow.Author.Rules.{rules}
 use Rattle.byte_map_occupied.proofs.taken_numbers.Goals as goal
 
 pub returns-in-Removed : goal.returns-in-Removed

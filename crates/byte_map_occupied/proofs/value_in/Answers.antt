@@ -1,6 +1,5 @@
 -- `byte_map_occupied::value_in` meets its contract: the slot number, then the look at the slot.
 use Rattle.byte_map_occupied.proofs.Values.{value_look, value_beyond}
-use borrow.Author.Rules.{rules}
 use Rattle.byte_map_occupied.proofs.value_in.Goals as goal
 
 pub returns-then-slot-marks : goal.returns-then-slot-marks

@@ -1,7 +1,6 @@
 -- `byte_map_occupied::value_of` meets its contract: sizes, then the key, then the slot.
 use Rattle.byte_slots.proofs.MapSizes.{same_long}
 use Rattle.byte_map_occupied.proofs.Values.{value_unfit, value_long, value_slot}
-use borrow.Author.Rules.{rules}
 use Rattle.byte_map_occupied.proofs.value_of.Goals as goal
 
 pub value_in-requires : goal.value_in-requires

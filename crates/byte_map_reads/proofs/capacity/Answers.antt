@@ -1,6 +1,5 @@
 -- `byte_map_reads::capacity` meets its contract: refusal 1 where the values do not fit, else what the keys' set tells.
 use mathlib.Core.Path.{◌∙◌}
-use borrow.Author.Rules.{rules}
 use Rattle.byte_slots.specs.Kinds.{maps, sets}
 use Rattle.kinds.proofs.Beside.{capacity_beside}
 use Rattle.byte_map_reads.proofs.Laws.{as_set_law, capacity_short}

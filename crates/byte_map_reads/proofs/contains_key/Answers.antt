@@ -1,6 +1,5 @@
 -- `byte_map_reads::contains_key` meets its contract: refusal 1 where the values do not fit, else what the keys' set tells.
 use mathlib.Core.Path.{◌∙◌}
-use borrow.Author.Rules.{rules}
 use Rattle.byte_map_reads.proofs.Laws.{contains_as_set, contains_short}
 use Rattle.byte_map_reads.proofs.contains_key.Goals as goal
 

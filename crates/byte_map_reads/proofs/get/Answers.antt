@@ -1,5 +1,4 @@
 -- `byte_map_reads::get` meets its contract: what the probing found, with the value in its slot.
-use borrow.Author.Rules.{rules}
 use native.Mathlib.Omega.{arith}
 use Rattle.answers.specs.Numbers.{got_numbers}
 use Rattle.answers.specs.Said.{got_said}

@@ -1,5 +1,4 @@
 -- `byte_map_union::carry_out` meets its contract: all pairs go in where the plan says so, else the refusal is told.
-use borrow.Author.Rules.{rules}
 use Rattle.byte_map_union.proofs.Joining.{go_ready, union_done, union_refused}
 use Rattle.byte_map_union.proofs.carry_out.Goals as goal
 

@@ -1,5 +1,4 @@
 -- `byte_map_union::needed_by` meets its contract, arm by arm.
-use borrow.Author.Rules.{rules}
 use Rattle.byte_map_union.specs.Needs.{needed_by}
 use Rattle.byte_map_union.proofs.needed_by.Goals as goal
 

@@ -1,5 +1,4 @@
 -- `byte_map_union::plan` meets its contract: the sizes of both, then damage and room.
-use borrow.Author.Rules.{rules}
 use Rattle.byte_slots.proofs.MapSizes.{sized_fits}
 use Rattle.byte_map_union.proofs.Plans.{left_unfit, right_unfit, room_plan}
 use Rattle.byte_map_union.proofs.plan.Goals as goal

@@ -1,5 +1,4 @@
 -- `byte_map_union::room` meets its contract: damage in either table, then what the right needs.
-use borrow.Author.Rules.{rules}
 use Rattle.byte_slots.proofs.Lives.{live_marks_within}
 use Rattle.byte_slots.proofs.Plans.{surveyed_within}
 use Rattle.byte_map_union.proofs.Rooms.{left_bad, right_bad, room_go, room_short}

@@ -3,7 +3,6 @@ use Rattle.byte_map_union.proofs.Needing.{slot_needs_none, slot_needs_key}
 use Rattle.byte_slots.proofs.Marks.{span_within}
 use Rattle.byte_slots.proofs.Sizes.{fitting_says}
 use native.Mathlib.Omega.{arith}
-use borrow.Author.Rules.{rules}
 use Rattle.byte_map_union.proofs.slot_needs.Goals as goal
 
 pub mark_at-requires : goal.mark_at-requires

@@ -1,10 +1,8 @@
 -- `byte_map_union::table_needs` meets its contract. The loop's invariant: the needs of the slots passed. The measure is how many are left.
 use Prim.Native.Nat.{◌-◌}
 use lib.ListN.{length}
-use borrow.Author.Rules.{rules}
 use Rattle.byte_slots.specs.Memory.{spans_of}
-use Rattle.byte_slots.proofs.Sizes.{fitting_says}
-use Rattle.byte_map_union.proofs.Needing.{Needing, need_start, need_more, need_end}
+use Rattle.byte_map_union.proofs.Needing.{Needing}
 use Rattle.byte_map_union.proofs.table_needs.Given as goal
 
 abbrev pub invariant-loop-i : goal.invariant-loop-i

@@ -1,5 +1,4 @@
 -- `byte_map_vacant::handle_refusal` meets its contract: refusals 7 and 8 become 6, the others stay.
-use borrow.Author.Rules.{rules}
 use Rattle.byte_map_vacant.specs.Planning.{handle_refusal}
 use Rattle.byte_map_vacant.proofs.Vacancies.{refusal_stays}
 use Rattle.byte_map_vacant.proofs.handle_refusal.Goals as goal

@@ -1,6 +1,5 @@
 -- `in_slot_numbers` meets its contract: each arm hands over what the definition says.
 use Rattle.byte_map_vacant.specs.Numbers.{in_slot_numbers}
-use borrow.Author.Rules.{rules}
 use Rattle.byte_map_vacant.proofs.in_slot_numbers.Goals as goal
 
 pub returns-in-Now : goal.returns-in-Now

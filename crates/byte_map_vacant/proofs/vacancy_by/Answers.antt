@@ -1,6 +1,5 @@
 -- `byte_map_vacant::vacancy_by` meets its contract: the free slot is the handle's own, or the handle is refused.
 use Rattle.byte_map_vacant.proofs.Vacancies.{vacancy_here, vacancy_elsewhere, vacancy_hit, vacancy_refused}
-use borrow.Author.Rules.{rules}
 use Rattle.byte_map_vacant.proofs.vacancy_by.Goals as goal
 
 pub returns-then-slot-free : goal.returns-then-slot-free

@@ -1,6 +1,5 @@
 -- `step_numbers` meets its contract: each arm hands over what the definition says.
 use Rattle.byte_map_walk.specs.Numbers.{step_numbers, yielded_numbers}
-use borrow.Author.Rules.{rules}
 use Rattle.byte_map_walk.proofs.step_numbers.Goals as goal
 
 pub returns-in-Pair : goal.returns-in-Pair

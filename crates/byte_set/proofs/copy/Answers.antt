@@ -1,5 +1,4 @@
 -- `byte_set::copy` meets its contract: refusal 1, or every slot and byte is the other table's.
-use borrow.Author.Rules.{rules}
 use Rattle.kinds.proofs.Copying.{copy_arena, copy_slots, copy_from_unsized, copy_unsized}
 use Rattle.byte_slots.specs.Kinds.{sets}
 use Rattle.byte_slots.proofs.Sets.{fit, unfit}

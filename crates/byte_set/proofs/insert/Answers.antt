@@ -1,5 +1,4 @@
 -- `byte_set::insert` meets its contract: the first free slot takes a key that is not there, its bytes the offset `used`.
-use borrow.Author.Rules.{rules}
 use Rattle.model.specs.Calls.{stored_by}
 use Rattle.answers.specs.Numbers.{joined_numbers}
 use Rattle.answers.specs.Said.{joined_said}

@@ -1,5 +1,4 @@
 -- `byte_set::make` meets its contract: refusal 1, or every mark, word and arena byte 0.
-use borrow.Author.Rules.{rules}
 use Rattle.kinds.proofs.Sizing.{make_unsized}
 use Rattle.byte_slots.specs.Kinds.{sets}
 use Rattle.byte_slots.proofs.Sets.{unfit}

@@ -1,5 +1,4 @@
 -- `byte_set::remove` meets its contract: the found slot is freed, and the gap in the arena closed.
-use borrow.Author.Rules.{rules}
 use Rattle.model.specs.Calls.{removed_by}
 use Rattle.answers.specs.Numbers.{dropped_numbers}
 use Rattle.answers.specs.Said.{dropped_said}

@@ -1,5 +1,4 @@
 -- `byte_set_reads::capacity` meets its contract: refusal 1, or the number of slots.
-use borrow.Author.Rules.{rules}
 use Rattle.kinds.proofs.Sizing.{capacity_sized, capacity_unsized}
 use Rattle.byte_slots.specs.Kinds.{sets}
 use Rattle.byte_slots.proofs.Sets.{fit, unfit}

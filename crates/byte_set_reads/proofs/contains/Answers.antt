@@ -1,5 +1,4 @@
 -- `byte_set_reads::contains` meets its contract: what the probing found.
-use borrow.Author.Rules.{rules}
 use Rattle.answers.specs.Numbers.{contained_numbers}
 use Rattle.answers.specs.Said.{contained_said}
 use Rattle.byte_slots.proofs.Calls.{contains_says}

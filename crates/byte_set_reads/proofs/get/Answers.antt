@@ -1,5 +1,4 @@
 -- `byte_set_reads::get` meets its contract: what the probing found, with the stored key's span.
-use borrow.Author.Rules.{rules}
 use Rattle.answers.specs.Numbers.{spanned_numbers}
 use Rattle.answers.specs.Said.{spanned_said}
 use Rattle.byte_slots.proofs.Calls.{set_get_says}

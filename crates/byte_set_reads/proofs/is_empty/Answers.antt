@@ -1,5 +1,4 @@
 -- `byte_set_reads::is_empty` meets its contract: as the length, told as whether it is 0.
-use borrow.Author.Rules.{rules}
 use Rattle.byte_slots.specs.Kinds.{sets}
 use Rattle.kinds.proofs.Counts.{empty_none, empty_some, empty_not}
 use Rattle.byte_set_reads.proofs.is_empty.Goals as goal

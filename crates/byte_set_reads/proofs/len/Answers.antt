@@ -1,6 +1,5 @@
 -- `byte_set_reads::len` meets its contract: refusal 1 or 5, or the number of live marks.
 use mathlib.Core.Path.{sym, ◌∙◌}
-use borrow.Author.Rules.{rules}
 use Rattle.kinds.proofs.Sizing.{len_unsized}
 use Rattle.byte_slots.specs.Kinds.{sets}
 use Rattle.byte_slots.proofs.Sets.{unfit}

@@ -1,6 +1,4 @@
 -- `byte_set_reads::reserve` meets its contract: refusals 1, 5, 7 and 8, or room.
-use mathlib.Core.Path.{sym, ◌∙◌}
-use borrow.Author.Rules.{rules}
 use Rattle.kinds.proofs.Sizing.{reserve_unsized}
 use Rattle.byte_slots.specs.Kinds.{sets}
 use Rattle.byte_slots.proofs.Lives.{live_marks_within}

@@ -1,5 +1,4 @@
 -- `byte_slots::ahead` meets its contract: refusal 1, then by the stretch that budget and place allow.
-use borrow.Author.Rules.{rules}
 use Rattle.kinds.proofs.Stepping.{way_inside}
 use Rattle.byte_slots.proofs.Steps.{ahead_unfit, ahead_done, ahead_refused, ahead_upto, same_long}
 use Rattle.byte_slots.proofs.ahead.Goals as goal

@@ -1,5 +1,4 @@
 -- `byte_slots::fits` meets its contract: the slot count, then the lengths, then the arena.
-use borrow.Author.Rules.{rules}
 use Rattle.byte_slots.proofs.Sizes.{fits_not, fits_offsets, fits_lengths, fits_arena}
 use Rattle.byte_slots.proofs.fits.Goals as goal
 

@@ -1,6 +1,5 @@
 -- `byte_slots::four_at` meets its contract: two bytes and the next two.
 use native.Mathlib.Omega.{arith}
-use borrow.Author.Rules.{rules}
 use Rattle.byte_slots.proofs.Eights.{joined}
 use Rattle.byte_slots.proofs.four_at.Goals as goal
 

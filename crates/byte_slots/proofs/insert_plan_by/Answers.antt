@@ -1,5 +1,4 @@
 -- `byte_slots::insert_plan_by` meets its contract: an arm for each end of a path, and for a free slot the test of its bytes.
-use borrow.Author.Rules.{rules}
 use borrow.Author.Tests.{le-leb, lt-leb}
 use Rattle.byte_slots.specs.Planning.{insert_plan_by}
 use Rattle.byte_slots.proofs.insert_plan_by.Goals as goal

@@ -1,6 +1,5 @@
 -- `byte_slots::key_at` meets its contract: the part of the arena from the offset on, as long as the length says.
 use Rattle.byte_slots.proofs.Marks.{span_part}
-use borrow.Author.Rules.{rules}
 use Rattle.byte_slots.proofs.key_at.Goals as goal
 
 pub returns : goal.returns

@@ -1,9 +1,7 @@
 -- `byte_slots::live_marks` meets its contract. The loop's invariant: so many of the marks passed are 1. The measure is how many are left.
 use Prim.Native.Nat.{◌-◌}
 use lib.ListN.{length}
-use borrow.Author.Rules.{rules}
-use Rattle.kinds.proofs.Scanning.{counted_low}
-use Rattle.byte_slots.proofs.Lives.{Counting, count_start, count_more, count_end}
+use Rattle.byte_slots.proofs.Lives.{Counting}
 use Rattle.byte_slots.proofs.live_marks.Given as goal
 
 abbrev pub invariant-loop-i : goal.invariant-loop-i

@@ -1,7 +1,5 @@
 -- `byte_slots::look` meets its contract: each return is a mark, and for mark 1 an end and a key.
 use mathlib.Core.Path.{refl}
-use native.Mathlib.Omega.{arith}
-use borrow.Author.Rules.{rules}
 use Rattle.byte_slots.proofs.Sights.{sight_never, sight_freed, sight_bad, sight_past, sight_same, sight_other}
 use Rattle.byte_slots.proofs.look.Goals as goal
 

@@ -1,5 +1,4 @@
 -- `byte_slots::map_ahead` meets its contract: refusal 1 where the values do not fit, else by the arrays of the keys.
-use borrow.Author.Rules.{rules}
 use Rattle.byte_slots.proofs.Steps.{ahead_long, ahead_short}
 use Rattle.byte_slots.proofs.map_ahead.Goals as goal
 

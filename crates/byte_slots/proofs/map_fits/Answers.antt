@@ -1,5 +1,4 @@
 -- `byte_slots::map_fits` meets its contract: the keys' arrays first, then the values.
-use borrow.Author.Rules.{rules}
 use Rattle.byte_slots.proofs.MapSizes.{map_fits_more, map_fits_not}
 use Rattle.byte_slots.proofs.map_fits.Goals as goal
 

@@ -1,5 +1,4 @@
 -- `byte_slots::map_plan_remove` meets its contract: refusal 1 where the values do not fit, else the plan.
-use borrow.Author.Rules.{rules}
 use Rattle.byte_slots.proofs.Planning.{map_plan_remove_long, map_plan_remove_short}
 use Rattle.byte_slots.proofs.map_plan_remove.Goals as goal
 

@@ -1,5 +1,4 @@
 -- `byte_slots::map_probe` meets its contract: refusal 1 where the values do not fit, else the probing.
-use borrow.Author.Rules.{rules}
 use Rattle.byte_slots.proofs.Seeking.{map_probe_long, map_probe_short}
 use Rattle.byte_slots.proofs.map_probe.Goals as goal
 

@@ -1,7 +1,5 @@
 -- `byte_slots::mark_at` meets its contract: a live span past the arena is shown as 3, any other mark as it is.
 use mathlib.Core.Path.{refl}
-use native.Mathlib.Omega.{arith}
-use borrow.Author.Rules.{rules}
 use Rattle.byte_slots.proofs.Marks.{mark_past, mark_within, mark_other}
 use Rattle.byte_slots.proofs.mark_at.Goals as goal
 

@@ -1,10 +1,5 @@
 -- `byte_slots::next_live` meets its contract. The loop's invariant: the rest of the stretch gives the whole answer. The measure is what is left of it.
-use borrow.Author.Rules.{rules}
-use Prim.Native.Nat.{◌-◌}
-use lib.ListN.{length}
-use Rattle.kinds.proofs.Scanning.{Ahead, ahead_start, ahead_live, ahead_bad, ahead_on_next, ahead_end}
-use Rattle.byte_slots.specs.Memory.{spans_of}
-use Rattle.byte_slots.specs.Marks.{mark_of}
+use Rattle.kinds.proofs.Scanning.{ahead_start, ahead_live, ahead_bad, ahead_on_next, ahead_end}
 use Rattle.byte_slots.specs.Scanning.{nexting}
 use Rattle.byte_slots.proofs.Marks.{marks_beyond}
 use Rattle.byte_slots.proofs.next_live.Goals as goal

@@ -1,7 +1,5 @@
 -- `byte_slots::plan_insert` meets its contract: the tests of sizes and key, then the rest of the plan.
 use Rattle.byte_slots.proofs.Plans.{plan_insert_unfit, plan_insert_kept, plan_insert_refused}
-use mathlib.Core.Path.{sym, ◌∙◌}
-use borrow.Author.Rules.{rules}
 use Rattle.byte_slots.proofs.plan_insert.Goals as goal
 
 pub returns-in-Fine : goal.returns-in-Fine

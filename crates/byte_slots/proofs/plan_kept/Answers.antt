@@ -2,7 +2,6 @@
 use Rattle.byte_slots.proofs.Plans.{surveyed_within, plan_kept_bad, plan_kept_path}
 use Rattle.byte_slots.proofs.Sizes.{home_fits}
 use mathlib.Core.Path.{refl, sym}
-use borrow.Author.Rules.{rules}
 use Rattle.byte_slots.proofs.plan_kept.Goals as goal
 
 pub walk_path-path-requires : goal.walk_path-path-requires

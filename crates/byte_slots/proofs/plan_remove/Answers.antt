@@ -1,6 +1,4 @@
 -- `byte_slots::plan_remove` meets its contract: the tests in order, then the path.
-use mathlib.Core.Path.{sym, ◌∙◌}
-use borrow.Author.Rules.{rules}
 use Rattle.byte_slots.proofs.Sizes.{home_fits}
 use Rattle.byte_slots.proofs.Plans.{plan_remove_unfit, plan_remove_long, plan_remove_bad, plan_remove_path}
 use Rattle.byte_slots.proofs.plan_remove.Goals as goal

@@ -1,5 +1,4 @@
 -- `byte_slots::probe` meets its contract: refusal 1, then 2, or the path from the home slot.
-use borrow.Author.Rules.{rules}
 use Rattle.byte_slots.proofs.Sizes.{home_fits, probing_unfit, probing_long, probing_path}
 use Rattle.byte_slots.proofs.probe.Goals as goal
 

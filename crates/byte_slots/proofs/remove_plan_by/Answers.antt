@@ -1,5 +1,4 @@
 -- `byte_slots::remove_plan_by` meets its contract: an arm for each end of a path.
-use borrow.Author.Rules.{rules}
 use Rattle.byte_slots.specs.Planning.{remove_plan_by}
 use Rattle.byte_slots.proofs.remove_plan_by.Goals as goal
 

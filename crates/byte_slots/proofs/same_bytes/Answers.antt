@@ -1,9 +1,6 @@
 -- `byte_slots::same_bytes` meets its contract. The loop's invariant: of one length, and equal so far. The measure is what is left of the length.
-use Prim.Native.Nat.{◌-◌}
-use lib.ListN.{length}
 use native.Mathlib.Omega.{arith}
-use borrow.Author.Rules.{rules}
-use Rattle.byte_slots.proofs.Equal.{Alike, alike_start, alike_eight, alike_other, alike_tail, unlike}
+use Rattle.byte_slots.proofs.Equal.{alike_eight, alike_other, unlike}
 use Rattle.byte_slots.proofs.same_bytes.Goals as goal
 
 pub loop-i-preserved : goal.loop-i-preserved

@@ -1,9 +1,7 @@
 -- `byte_slots::same_bytes` meets its contract. The loop's invariant: of one length, and equal so far. The measure is what is left of the length.
 use Prim.Native.Nat.{◌-◌}
 use lib.ListN.{length}
-use native.Mathlib.Omega.{arith}
-use borrow.Author.Rules.{rules}
-use Rattle.byte_slots.proofs.Equal.{Alike, alike_start, alike_eight, alike_other, alike_tail, unlike}
+use Rattle.byte_slots.proofs.Equal.{Alike}
 use Rattle.byte_slots.proofs.same_bytes.Given as goal
 
 abbrev pub invariant-loop-i : goal.invariant-loop-i

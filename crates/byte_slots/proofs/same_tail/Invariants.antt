@@ -1,8 +1,7 @@
 -- `byte_slots::same_tail` meets its contract. The loop's invariant: equal so far. The measure is what is left of the length.
 use Prim.Native.Nat.{◌-◌}
 use lib.ListN.{length}
-use borrow.Author.Rules.{rules}
-use Rattle.byte_slots.proofs.Equal.{Alike, alike_start, alike_more, alike_not, alike_end}
+use Rattle.byte_slots.proofs.Equal.{Alike}
 use Rattle.byte_slots.proofs.same_tail.Given as goal
 
 abbrev pub invariant-loop-i : goal.invariant-loop-i

@@ -1,11 +1,9 @@
 -- `byte_slots::scan` meets its contract. The loop's invariant: no damage so far, and so many live. The measure is what is left of the length.
-use borrow.Author.Rules.{rules}
 use Prim.Native.Nat.{◌-◌}
 use lib.ListN.{length}
-use Rattle.kinds.proofs.Scanning.{counted_low, Scanning, scan_start, scan_bad, scan_on, scan_end}
+use Rattle.kinds.proofs.Scanning.{Scanning}
 use Rattle.byte_slots.specs.Memory.{spans_of}
 use Rattle.byte_slots.specs.Marks.{mark_of}
-use Rattle.byte_slots.specs.Scanning.{scanning}
 use Rattle.byte_slots.proofs.scan.Given as goal
 
 abbrev pub invariant-loop-i : goal.invariant-loop-i

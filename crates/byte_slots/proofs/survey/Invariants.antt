@@ -1,12 +1,8 @@
 -- `byte_slots::survey` meets its contract. The loop's invariant: no mark above 2 so far, the sum and the largest end. The measure is what is left of the length.
-use borrow.Author.Rules.{rules}
 use Prim.Native.Nat.{◌-◌}
-use mathlib.Core.Logic.{⊎_elim}
-use mathlib.Core.Path.{refl, ◌∙◌}
-use native.Mathlib.Omega.{arith}
 use lib.ListN.{length}
 use Rattle.byte_slots.specs.Memory.{spans_of}
-use Rattle.byte_slots.proofs.Surveys.{Surveying, survey_start, survey_bad, survey_live, survey_pass, survey_over, survey_beyond, survey_end}
+use Rattle.byte_slots.proofs.Surveys.{Surveying}
 use Rattle.byte_slots.proofs.survey.Given as goal
 
 abbrev pub invariant-loop-i : goal.invariant-loop-i

@@ -1,12 +1,8 @@
 -- `byte_slots::walk_path` meets its contract. The loop's invariant: the rest of the trail gives the path's answer. The measure is how many slots are left.
-use Prim.Native.Nat.{◌-◌}
 use mathlib.Core.Path.{◌∙◌}
-use lib.ListN.{length}
 use borrow.Author.Rules.{rules}
-use Rattle.kinds.proofs.Trail.{OnTrail, at_home, round, on_never, on_bad, on_same, on_freed, on_other}
+use Rattle.kinds.proofs.Trail.{at_home, round, on_never, on_bad, on_same, on_freed, on_other}
 use Rattle.byte_slots.specs.Keys.{byte_keys}
-use Rattle.byte_slots.specs.Memory.{spans_of, key_at}
-use Rattle.byte_slots.specs.Marks.{mark_of}
 use Rattle.byte_slots.specs.Probing.{sight_at, path_from}
 use Rattle.byte_slots.proofs.walk_path.Goals as goal
 use Rattle.byte_slots.proofs.walk_path.Goals.{in-Freed, in-Other}

@@ -1,6 +1,5 @@
 -- `byte_store::map_store` meets its contract: the set's rule, then the value in the key's slot.
 use Rattle.byte_store.proofs.Storing.{map_store_there, map_store_none}
-use borrow.Author.Rules.{rules}
 use Rattle.byte_store.proofs.map_store.Goals as goal
 
 pub returns-then-slot-values : goal.returns-then-slot-values

@@ -1,13 +1,10 @@
 -- `byte_store::map_store_all` meets its contract. The loop's invariant: the pairs of the slots passed are in, and there is room for the others. The measure is how many slots are left.
 use Prim.Native.Nat.{◌-◌}
-use Rattle.byte_slots.proofs.Sizes.{fitting_says}
 use Rattle.byte_slots.specs.Kinds.{map_memory}
-use Rattle.byte_store.proofs.Turns.{slot_aligned, Turning, turn_start, turn_slot, turn_more, turn_end, words_more}
+use Rattle.byte_store.proofs.Turns.{Turning}
 use Rattle.kinds.specs.Columns.{values}
 use lib.ListN.{length}
-use mathlib.Core.Path.{◌≡◌, refl}
-use native.Mathlib.Omega.{arith}
-use borrow.Author.Rules.{rules}
+use mathlib.Core.Path.{◌≡◌}
 use Rattle.byte_store.proofs.map_store_all.Given as goal
 
 abbrev pub invariant-loop-i : goal.invariant-loop-i

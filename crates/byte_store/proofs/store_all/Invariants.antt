@@ -1,11 +1,9 @@
 -- `byte_store::store_all` meets its contract. The loop's invariant: the keys of the slots passed are in, and there is room for the others. The measure is how many slots are left.
 use Prim.Native.Nat.{◌-◌}
-use Rattle.byte_slots.proofs.Sizes.{fitting_says}
 use Rattle.byte_slots.specs.Kinds.{set_memory}
-use Rattle.byte_store.proofs.Turns.{slot_aligned, Turning, turn_start, turn_slot, turn_more, turn_end}
+use Rattle.byte_store.proofs.Turns.{Turning}
 use Rattle.kinds.specs.Columns.{nothing}
 use lib.ListN.{length}
-use borrow.Author.Rules.{rules}
 use Rattle.byte_store.proofs.store_all.Given as goal
 
 abbrev pub invariant-loop-i : goal.invariant-loop-i

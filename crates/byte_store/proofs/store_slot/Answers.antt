@@ -3,7 +3,6 @@ use Rattle.byte_slots.proofs.Marks.{span_within}
 use Rattle.byte_store.proofs.Turns.{live_storable, slot_live, slot_idle}
 use Rattle.kinds.specs.Columns.{nothing}
 use native.Mathlib.Omega.{arith}
-use borrow.Author.Rules.{rules}
 use Rattle.byte_store.proofs.store_slot.Goals as goal
 
 pub key_at-key-requires : goal.key_at-key-requires

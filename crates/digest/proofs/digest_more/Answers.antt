@@ -1,7 +1,6 @@
 -- `digest::digest_more` meets its contract. The loop's invariant: the bytes from i on, after the state so far, give the whole digest.
 -- The measure is what is left of the length. Assumes nothing.
-use Rattle.std.proofs.Common.{◌≡◌, ◌-◌, ◌≤◌, length, drop, ◌∙◌, rules}
-use Rattle.digest.specs.Digest.{more_of}
+use Rattle.std.proofs.Common.{◌∙◌, rules}
 use Rattle.digest.proofs.Steps.{byte_turn, byte_end}
 use Rattle.digest.proofs.digest_more.Goals as goal
 

@@ -1,8 +1,7 @@
 -- `digest::digest_more` meets its contract. The loop's invariant: the bytes from i on, after the state so far, give the whole digest.
 -- The measure is what is left of the length. Assumes nothing.
-use Rattle.std.proofs.Common.{◌≡◌, ◌-◌, ◌≤◌, length, drop, ◌∙◌, rules}
+use Rattle.std.proofs.Common.{◌≡◌, ◌-◌, ◌≤◌, length, drop}
 use Rattle.digest.specs.Digest.{more_of}
-use Rattle.digest.proofs.Steps.{byte_turn, byte_end}
 use Rattle.digest.proofs.digest_more.Given as goal
 
 abbrev pub invariant-loop-i : goal.invariant-loop-i

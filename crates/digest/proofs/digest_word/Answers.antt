@@ -1,8 +1,6 @@
 -- `digest::digest_word` meets its contract. The loop's invariant: the bytes that are left, after the state so far, give the whole digest.
 -- The measure is how many are left. Assumes nothing.
-use Rattle.std.proofs.Common.{◌≡◌, ◌∙◌, rules}
-use Rattle.lists.specs.Bytes.{le}
-use Rattle.digest.specs.Digest.{more_of, word_of}
+use Rattle.std.proofs.Common.{◌∙◌, rules}
 use Rattle.digest.proofs.Steps.{word_turn, word_end}
 use Rattle.digest.proofs.digest_word.Goals as goal
 

@@ -1,6 +1,6 @@
 -- `digest::home` meets its contract: each return is a case of when the home slot is refused.
 -- Assumes nothing.
-use Rattle.std.proofs.Common.{sym, ap, ◌∙◌, rules}
+use Rattle.std.proofs.Common.{sym, ap, ◌∙◌}
 use Rattle.answers.specs.declared.Homed.TheVariants.{At}
 use Rattle.digest.proofs.Refusals.{home_unfit, home_long, home_fit}
 use Rattle.digest.proofs.home.Goals as goal

@@ -1,6 +1,6 @@
 -- `digest::home_word` meets its contract: each return is a case of when the home slot is refused.
 -- Assumes nothing.
-use Rattle.std.proofs.Common.{sym, ap, ◌∙◌, rules}
+use Rattle.std.proofs.Common.{sym, ap, ◌∙◌}
 use Rattle.answers.specs.declared.Homed.TheVariants.{At}
 use Rattle.digest.proofs.Refusals.{word_unfit, word_fit}
 use Rattle.digest.proofs.home_word.Goals as goal

@@ -1,6 +1,5 @@
 -- `digest::mix` meets its contract, by what `times_prime` ensures.
 -- Assumes nothing.
-use Rattle.std.proofs.Common.{rules}
 use Rattle.digest.specs.Digest.{mix_of}
 use Rattle.digest.proofs.mix.Goals as goal
 

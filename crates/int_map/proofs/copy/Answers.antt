@@ -1,5 +1,4 @@
 -- `int_map::copy` meets its contract: refusal 1, or every slot is the other table's.
-use borrow.Author.Rules.{rules}
 use Rattle.kinds.proofs.Copying.{copy_slots, copy_from_unsized, copy_unsized}
 use Rattle.kinds.proofs.Sizing.{sized_as}
 use Rattle.int_slots.specs.Maps.{maps}

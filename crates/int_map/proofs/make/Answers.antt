@@ -1,5 +1,4 @@
 -- `int_map::make` meets its contract: refusal 1, or every mark and word 0.
-use borrow.Author.Rules.{rules}
 use Rattle.kinds.proofs.Sizing.{sized_as, make_sized, make_unsized}
 use Rattle.int_slots.specs.Maps.{maps}
 use Rattle.int_map.proofs.make.Goals as goal

@@ -1,5 +1,4 @@
 -- `int_map::remove` meets its contract: the found slot is freed, its words become 0.
-use borrow.Author.Rules.{rules}
 use native.Mathlib.Omega.{arith}
 use Rattle.model.specs.Calls.{removed_by}
 use Rattle.answers.specs.Numbers.{removed_numbers}

@@ -1,6 +1,5 @@
 -- `held_numbers` meets its contract: each arm hands over what the definition says.
 use Rattle.int_map_occupied.specs.Numbers.{held_numbers}
-use borrow.Author.Rules.{rules}
 use Rattle.int_map_occupied.proofs.held_numbers.Goals as goal
 
 pub returns-in-Value : goal.returns-in-Value

@@ -1,6 +1,5 @@
 -- `taken_entry_numbers` meets its contract: each arm hands over what the definition says.
 use Rattle.int_map_occupied.specs.Numbers.{taken_entry_numbers}
-use borrow.Author.Rules.{rules}
 use Rattle.int_map_occupied.proofs.taken_entry_numbers.Goals as goal
 
 pub returns-in-Removed : goal.returns-in-Removed

@@ -1,7 +1,5 @@
 -- `int_map_union::plan` meets its contract: the sizes of both, then the room.
-use mathlib.Core.Path.{sym, ◌∙◌}
 use Rattle.int_map_union.proofs.Joining.{left_unfit, right_unfit}
-use borrow.Author.Rules.{rules}
 use Rattle.int_map_union.proofs.plan.Goals as goal
 
 pub returns-then-map_fits : goal.returns-then-map_fits

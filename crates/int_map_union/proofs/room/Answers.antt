@@ -2,7 +2,6 @@
 use mathlib.Core.Path.{refl}
 use Rattle.int_slots.proofs.MapSizes.{same_long}
 use Rattle.int_map_union.proofs.Joining.{live_low, left_bad, right_bad, room_done, room_none}
-use borrow.Author.Rules.{rules}
 use Rattle.int_map_union.proofs.room.Goals as goal
 
 pub returns-in_default : goal.returns-in_default

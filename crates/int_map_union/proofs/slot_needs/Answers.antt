@@ -1,6 +1,5 @@
 -- `int_map_union::slot_needs` meets its contract: a live slot by how the probing of its key ends in the left.
 use Rattle.int_map_union.proofs.Needing.{slot_needs_hit, slot_needs_free, slot_needs_full, slot_needs_refused, slot_needs_idle}
-use borrow.Author.Rules.{rules}
 use Rattle.int_map_union.proofs.slot_needs.Goals as goal
 
 pub returns-in-Hit : goal.returns-in-Hit

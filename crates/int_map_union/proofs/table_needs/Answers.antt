@@ -1,9 +1,6 @@
 -- `int_map_union::table_needs` meets its contract. The loop's invariant: the needs of the slots passed. The measure is how many are left.
-use Prim.Native.Nat.{◌-◌}
-use lib.ListN.{length}
 use borrow.Author.Rules.{rules}
-use Rattle.int_slots.specs.Memory.{memory}
-use Rattle.int_map_union.proofs.Needing.{Needing, slot_needs_low, need_start, need_more, need_end}
+use Rattle.int_map_union.proofs.Needing.{slot_needs_low, need_start, need_more}
 use Rattle.int_map_union.proofs.table_needs.Goals as goal
 
 pub loop-i-init : goal.loop-i-init

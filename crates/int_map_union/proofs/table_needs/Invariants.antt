@@ -1,9 +1,8 @@
 -- `int_map_union::table_needs` meets its contract. The loop's invariant: the needs of the slots passed. The measure is how many are left.
 use Prim.Native.Nat.{◌-◌}
 use lib.ListN.{length}
-use borrow.Author.Rules.{rules}
 use Rattle.int_slots.specs.Memory.{memory}
-use Rattle.int_map_union.proofs.Needing.{Needing, slot_needs_low, need_start, need_more, need_end}
+use Rattle.int_map_union.proofs.Needing.{Needing}
 use Rattle.int_map_union.proofs.table_needs.Given as goal
 
 abbrev pub invariant-loop-i : goal.invariant-loop-i

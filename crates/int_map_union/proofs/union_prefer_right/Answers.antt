@@ -1,6 +1,5 @@
 -- `int_map_union::union_prefer_right` meets its contract: the plan, then all pairs or none.
 use Rattle.int_map_union.proofs.Joining.{plan_sized, union_done, union_refused}
-use borrow.Author.Rules.{rules}
 use Rattle.int_map_union.proofs.union_prefer_right.Goals as goal
 
 pub map_store_all-requires : goal.map_store_all-requires

@@ -1,6 +1,5 @@
 -- `int_map_vacant::vacancy_at` meets its contract: good where the probing ends at that free slot.
 use Rattle.int_map_vacant.proofs.Vacancies.{vacancy_free, vacancy_other, vacancy_hit, vacancy_full, vacancy_refused}
-use borrow.Author.Rules.{rules}
 use Rattle.int_map_vacant.proofs.vacancy_at.Goals as goal
 
 pub returns-then-slot-free : goal.returns-then-slot-free

@@ -1,5 +1,4 @@
 -- `int_set::copy` meets its contract: refusal 1, or every slot is the other table's.
-use borrow.Author.Rules.{rules}
 use Rattle.kinds.proofs.Copying.{copy_slots, copy_from_unsized, copy_unsized}
 use Rattle.int_slots.specs.Sets.{sets}
 use Rattle.int_slots.proofs.SetSizes.{fit, unfit}

@@ -1,5 +1,4 @@
 -- `int_set::insert` meets its contract: the first free slot takes a key that is not there.
-use borrow.Author.Rules.{rules}
 use native.Mathlib.Omega.{arith}
 use Rattle.model.specs.Calls.{stored_by}
 use Rattle.answers.specs.Numbers.{added_numbers}

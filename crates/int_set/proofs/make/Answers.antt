@@ -1,5 +1,4 @@
 -- `int_set::make` meets its contract: refusal 1, or every mark and word 0.
-use borrow.Author.Rules.{rules}
 use Rattle.kinds.proofs.Sizing.{make_sized, make_unsized}
 use Rattle.int_slots.specs.Sets.{sets}
 use Rattle.int_slots.proofs.SetSizes.{fit, unfit}

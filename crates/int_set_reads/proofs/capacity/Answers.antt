@@ -1,5 +1,4 @@
 -- `int_set_reads::capacity` meets its contract: refusal 1, or the number of slots.
-use borrow.Author.Rules.{rules}
 use Rattle.kinds.proofs.Sizing.{capacity_sized, capacity_unsized}
 use Rattle.int_slots.specs.Sets.{sets}
 use Rattle.int_slots.proofs.SetSizes.{fit, unfit}

@@ -1,5 +1,4 @@
 -- `int_set_reads::contains` meets its contract: what the probing found.
-use borrow.Author.Rules.{rules}
 use Rattle.answers.specs.Numbers.{contained_numbers}
 use Rattle.answers.specs.Said.{contained_said}
 use Rattle.int_slots.proofs.Calls.{contains_says}

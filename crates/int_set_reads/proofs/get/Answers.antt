@@ -1,5 +1,4 @@
 -- `int_set_reads::get` meets its contract: what the probing found, with the key.
-use borrow.Author.Rules.{rules}
 use Rattle.answers.specs.Numbers.{member_numbers}
 use Rattle.answers.specs.Said.{member_said}
 use Rattle.int_slots.proofs.Calls.{set_get_says}

@@ -1,5 +1,4 @@
 -- `int_set_reads::len` meets its contract: refusal 1 or 5, or the number of live marks.
-use borrow.Author.Rules.{rules}
 use Rattle.kinds.specs.Columns.{nothing}
 use Rattle.kinds.proofs.Sizing.{len_live, len_damaged, len_unsized}
 use Rattle.int_slots.specs.Sets.{sets}

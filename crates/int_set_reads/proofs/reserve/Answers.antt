@@ -1,6 +1,5 @@
 -- `int_set_reads::reserve` meets its contract: refusals 1, 5 and 7, or room.
 use mathlib.Core.Path.{refl}
-use borrow.Author.Rules.{rules}
 use native.Mathlib.Omega.{arith}
 use Rattle.kinds.proofs.Counts.{count_within, reserve_room, reserve_none, reserve_not}
 use Rattle.int_set_reads.proofs.reserve.Goals as goal

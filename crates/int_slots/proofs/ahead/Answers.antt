@@ -1,5 +1,4 @@
 -- `int_slots::ahead` meets its contract: refusal 1, or what the marks come upon.
-use borrow.Author.Rules.{rules}
 use Rattle.int_slots.proofs.Steps.{set_ahead_law, set_unfit}
 use Rattle.int_slots.proofs.ahead.Goals as goal
 

@@ -1,5 +1,4 @@
 -- `int_slots::fits` meets its contract: the slot count first, then the two lengths.
-use borrow.Author.Rules.{rules}
 use Rattle.int_slots.specs.Memory.{fitting}
 use Rattle.int_slots.proofs.fits.Goals as goal
 

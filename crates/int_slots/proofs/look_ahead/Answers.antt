@@ -1,5 +1,4 @@
 -- `int_slots::look_ahead` meets its contract: by the stretch that budget and place allow.
-use borrow.Author.Rules.{rules}
 use mathlib.Core.Path.{refl}
 use Rattle.kinds.proofs.Stepping.{way_inside, ahead_upto, ahead_done, ahead_refused}
 use Rattle.int_slots.specs.Scanning.{nexting}

@@ -1,5 +1,4 @@
 -- `int_slots::map_ahead` meets its contract: refusal 1, or what the marks come upon.
-use borrow.Author.Rules.{rules}
 use Rattle.int_slots.proofs.Steps.{map_ahead_law, map_unfit}
 use Rattle.int_slots.proofs.map_ahead.Goals as goal
 

@@ -1,5 +1,4 @@
 -- `int_slots::map_fits` meets its contract: values and keys as many as marks, then the slot count.
-use borrow.Author.Rules.{rules}
 use Rattle.int_slots.proofs.MapSizes.{map_fits_all, map_fits_keys, map_fits_values}
 use Rattle.int_slots.proofs.map_fits.Goals as goal
 

@@ -1,5 +1,4 @@
 -- `int_slots::map_probe` meets its contract: refusal 1 where the values do not fit, else the probing.
-use borrow.Author.Rules.{rules}
 use Rattle.int_slots.proofs.Seeking.{map_probe_long, map_probe_short}
 use Rattle.int_slots.proofs.map_probe.Goals as goal
 

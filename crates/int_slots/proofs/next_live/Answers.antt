@@ -1,11 +1,8 @@
 -- `int_slots::next_live` meets its contract. The loop's invariant: the rest of the stretch gives the whole answer. The measure is what is left of it.
-use Prim.Native.Nat.{◌-◌}
 use mathlib.Core.Path.{refl}
-use lib.ListN.{length, get_or-eq_default}
-use borrow.Author.Rules.{rules}
+use lib.ListN.{get_or-eq_default}
 use Rattle.int_slots.specs.Scanning.{nexting}
-use Rattle.kinds.specs.Marks.{words_of}
-use Rattle.kinds.proofs.Scanning.{Ahead, ahead_start, ahead_live, ahead_bad, ahead_on_next, ahead_end}
+use Rattle.kinds.proofs.Scanning.{ahead_start, ahead_live, ahead_bad, ahead_on_next, ahead_end}
 use Rattle.int_slots.proofs.next_live.Goals as goal
 
 pub loop-i-init : goal.loop-i-init

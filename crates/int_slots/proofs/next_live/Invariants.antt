@@ -1,11 +1,9 @@
 -- `int_slots::next_live` meets its contract. The loop's invariant: the rest of the stretch gives the whole answer. The measure is what is left of it.
 use Prim.Native.Nat.{◌-◌}
-use mathlib.Core.Path.{refl}
-use lib.ListN.{length, get_or-eq_default}
-use borrow.Author.Rules.{rules}
+use lib.ListN.{length}
 use Rattle.int_slots.specs.Scanning.{nexting}
 use Rattle.kinds.specs.Marks.{words_of}
-use Rattle.kinds.proofs.Scanning.{Ahead, ahead_start, ahead_live, ahead_bad, ahead_on_next, ahead_end}
+use Rattle.kinds.proofs.Scanning.{Ahead}
 use Rattle.int_slots.proofs.next_live.Given as goal
 
 abbrev pub invariant-loop-i : goal.invariant-loop-i

@@ -1,5 +1,4 @@
 -- `int_slots::probe` meets its contract: refusal 1, or the path from the home slot.
-use borrow.Author.Rules.{rules}
 use Rattle.int_slots.proofs.Sizes.{home_fits, probing_fit, probing_misfit}
 use Rattle.int_slots.proofs.probe.Goals as goal
 

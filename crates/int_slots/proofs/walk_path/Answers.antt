@@ -1,14 +1,7 @@
 -- `int_slots::walk_path` meets its contract. The loop's invariant: the rest of the trail, of one slot or more, gives the path's answer. The measure is how many slots are left.
-use Prim.Native.Nat.{◌-◌, ◌<◌}
-use mathlib.Core.Logic.{⊎_elim}
 use mathlib.Core.Path.{refl, ◌∙◌}
-use lib.ListN.{length}
 use borrow.Author.Rules.{rules}
-use Rattle.model.specs.Path.{find}
-use Rattle.kinds.specs.Marks.{words_of}
-use Rattle.kinds.specs.Probing.{along}
-use Rattle.kinds.proofs.Trail.{OnTrail, at_home, round, on_never, on_bad, on_same, on_freed, on_other}
-use Rattle.int_slots.specs.Probing.{slots_in}
+use Rattle.kinds.proofs.Trail.{at_home, round, on_never, on_bad, on_same, on_freed, on_other}
 use Rattle.int_slots.specs.Memory.{integers}
 use Rattle.int_slots.proofs.walk_path.Goals as goal
 use Rattle.int_slots.proofs.walk_path.Goals.{in-Freed, in-Other}

@@ -1,6 +1,5 @@
 -- `int_store::map_store` meets its contract: the set's rule, then the value in the key's slot.
 use Rattle.int_store.proofs.Storing.{keys_sized, map_store_there, map_store_none}
-use borrow.Author.Rules.{rules}
 use Rattle.int_store.proofs.map_store.Goals as goal
 
 pub store-slot-requires : goal.store-slot-requires

@@ -1,10 +1,7 @@
 -- `int_store::map_store_all` meets its contract. The loop's invariant: the pairs of the slots passed are in. The measure is how many slots are left.
-use Prim.Native.Nat.{◌-◌}
-use Rattle.int_slots.specs.Memory.{memory}
-use Rattle.int_store.proofs.Storing.{Storing, store_start, store_more, store_end, words_long}
+use Rattle.int_store.proofs.Storing.{store_start, store_more}
 use Rattle.kinds.proofs.Columns.{values_lawful}
 use Rattle.kinds.specs.Columns.{values}
-use lib.ListN.{length}
 use borrow.Author.Rules.{rules}
 use Rattle.int_store.proofs.map_store_all.Goals as goal
 

@@ -1,10 +1,7 @@
 -- `int_store::store_all` meets its contract. The loop's invariant: the keys of the slots passed are in. The measure is how many slots are left.
-use Prim.Native.Nat.{◌-◌}
-use Rattle.int_slots.specs.Sets.{memory}
-use Rattle.int_store.proofs.Storing.{Storing, store_start, store_more, store_end}
+use Rattle.int_store.proofs.Storing.{store_start, store_more}
 use Rattle.kinds.proofs.Columns.{nothing_lawful}
 use Rattle.kinds.specs.Columns.{nothing}
-use lib.ListN.{length}
 use borrow.Author.Rules.{rules}
 use Rattle.int_store.proofs.store_all.Goals as goal
 

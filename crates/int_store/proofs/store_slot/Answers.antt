@@ -1,7 +1,6 @@
 -- `int_store::store_slot` meets its contract: a live slot's key goes in by the rule, another stores nothing.
 use Rattle.int_slots.specs.Sets.{sets}
 use Rattle.kinds.proofs.Uniting.{slot_live, slot_idle}
-use borrow.Author.Rules.{rules}
 use Rattle.int_store.proofs.store_slot.Goals as goal
 
 pub returns-then-mark-eq1 : goal.returns-then-mark-eq1

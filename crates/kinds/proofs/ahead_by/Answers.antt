@@ -1,5 +1,4 @@
 -- `kinds::ahead_by` meets its contract: a live slot, refusal 5, or the slot up to which there is none.
-use borrow.Author.Rules.{rules}
 use Rattle.kinds.specs.Stepping.{ahead_by}
 use Rattle.kinds.proofs.ahead_by.Goals as goal
 

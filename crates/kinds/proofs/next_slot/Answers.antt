@@ -1,6 +1,5 @@
 -- `kinds::next_slot` meets its contract: one up, or 0 at the end.
 use borrow.Author.Tests.{lt-ltb, le-ltb}
-use borrow.Author.Rules.{rules}
 use Rattle.kinds.specs.Probing.{next_slot}
 use Rattle.kinds.proofs.next_slot.Goals as goal
 

@@ -1,5 +1,4 @@
 -- `kinds::reach` meets its contract: the budget, or what is left of the slots.
-use borrow.Author.Rules.{rules}
 use borrow.Author.Tests.{le-leb, lt-leb}
 use Rattle.model.specs.Walk.{reach_of}
 use Rattle.kinds.proofs.reach.Goals as goal

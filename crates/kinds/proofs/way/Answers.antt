@@ -1,5 +1,4 @@
 -- `kinds::way` meets its contract: refusal 3, up to the end of the reach before S, refusal 4 beyond it, and done at S.
-use borrow.Author.Rules.{rules}
 use borrow.Author.Tests.{eq-eqb, ne_eqb, lt-leb}
 use native.Mathlib.Omega.{arith}
 use Rattle.kinds.specs.Stepping.{way_of}

@@ -3,8 +3,7 @@
 use Rattle.lines.specs.Grammar.{limit}
 use Prim.Native.Nat.{◌+◌, ◌-◌, ◌*◌}
 use native.Mathlib.Omega.{arith}
-use borrow.Author.Tests.{le-leb, lt-leb, lt-ltb, le-ltb}
-use borrow.Author.Rules.{rules}
+use borrow.Author.Tests.{le-leb, lt-ltb, le-ltb}
 use Rattle.lines.proofs.grown.Goals as goal
 
 pub returns-then-n-digit : goal.returns-then-n-digit

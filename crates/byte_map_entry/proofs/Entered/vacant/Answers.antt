@@ -1,7 +1,6 @@
 -- `Entered::vacant` meets its contract: the vacant handle, else one of slot S.
 use Rattle.byte_map_entry.specs.Calls.{vacant_slot_of}
 use Rattle.byte_map_entry.proofs.Answers.{vacant_other}
-use borrow.Author.Rules.{rules}
 use Rattle.byte_map_entry.proofs.Entered.vacant.Goals as goal
 
 pub returns-in_default : goal.returns-in_default

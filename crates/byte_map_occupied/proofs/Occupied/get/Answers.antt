@@ -1,6 +1,5 @@
 -- `Occupied::get` meets its contract: what the plan says.
 use Rattle.byte_map_occupied.proofs.Values.{get_held}
-use borrow.Author.Rules.{rules}
 use Rattle.byte_map_occupied.proofs.Occupied.get.Goals as goal
 
 pub returns : goal.returns

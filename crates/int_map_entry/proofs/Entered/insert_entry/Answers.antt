@@ -1,6 +1,5 @@
 -- `Entered::insert_entry` meets its contract: the occupied case first, then everything else as vacant.
 use Rattle.int_map_entry.proofs.Answers.{insert_entry_vacant, insert_entry_set, insert_entry_refused}
-use borrow.Author.Rules.{rules}
 use Rattle.int_map_entry.proofs.Entered.insert_entry.Goals as goal
 
 pub returns-in_default : goal.returns-in_default

@@ -1,6 +1,5 @@
 -- `Entered::or_insert` meets its contract: the occupied case first, then everything else as vacant.
 use Rattle.int_map_entry.proofs.Answers.{or_insert_vacant, or_insert_kept, or_insert_refused}
-use borrow.Author.Rules.{rules}
 use Rattle.int_map_entry.proofs.Entered.or_insert.Goals as goal
 
 pub returns-in_default : goal.returns-in_default

@@ -1,6 +1,5 @@
 -- `Occupied::remove_entry` meets its contract: the remove, with the key.
 use Rattle.int_map_occupied.proofs.Values.{remove_entry_done, remove_entry_refused}
-use borrow.Author.Rules.{rules}
 use Rattle.int_map_occupied.proofs.Occupied.remove_entry.Goals as goal
 
 pub returns-in-Removed : goal.returns-in-Removed

@@ -1,5 +1,4 @@
 -- `int_map_walk::Walk::step` meets its contract: the pair of the live slot that it comes upon, nothing, done, or the refusal.
-use borrow.Author.Rules.{rules}
 use native.Mathlib.Omega.{arith}
 use Rattle.kinds.specs.Columns.{values}
 use Rattle.int_slots.specs.Steps.{step_of}

@@ -1,5 +1,4 @@
 -- `int_set_walk::Walk::step` meets its contract: the key of the live slot that it comes upon, nothing, done, or the refusal.
-use borrow.Author.Rules.{rules}
 use native.Mathlib.Omega.{arith}
 use Rattle.kinds.specs.Columns.{nothing}
 use Rattle.int_slots.specs.Steps.{set_step_of}

@@ -1,8 +1,6 @@
 -- `lines::Decimal::of` meets its contract: the loop's invariant is `Printing`, and the number still to be written falls.
 -- Assumes nothing.
-use Rattle.lines.proofs.Printing.{Printing, starts, earlier, goes, ends}
-use native.Mathlib.Omega.{arith}
-use borrow.Author.Rules.{rules}
+use Rattle.lines.proofs.Printing.{Printing}
 use Rattle.lines.proofs.Decimal.of.Given as goal
 
 abbrev pub invariant-loop-rest : goal.invariant-loop-rest

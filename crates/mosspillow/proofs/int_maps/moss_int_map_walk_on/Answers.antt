@@ -1,6 +1,5 @@
 -- `moss_int_map_walk_on` meets its contract: its answer is that of the callee, whose walk is stored.
 use mathlib.Core.Path.{refl}
-use borrow.Author.Rules.{rules}
 use Rattle.kinds.proofs.Moved.{moved}
 use Rattle.mosspillow.proofs.int_maps.moss_int_map_walk_on.Goals as goal
 
