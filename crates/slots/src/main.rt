@@ -6,6 +6,7 @@ ghost use Rattle.std.specs.Prelude.{◌≤◌, length, IfOk};
 use answers::{Got, Inserted, Refusal, Removed};
 use int_map_walk::{Walk, Yielded};
 use lines::{Decimal, Order, Reading};
+use std::fmt::InlineText;
 use std::io::{self, ErrorKind, Read, Write};
 
 // The most slots that the program lends to its map.
@@ -278,7 +279,13 @@ fn fails(rt: &HostRuntime, error: &io::Error) -> io::Result<bool> {
     if error.kind() == ErrorKind::Interrupted {
         return Ok(false);
     }
-    eprintln!(rt; "slots: standard input: {error}")?;
+    let told = InlineText::<320>::of(error);
+    let words = told.as_str();
+    // Without the system's number behind them.
+    match words.split_once(" (os error ") {
+        Some((said, _)) => eprintln!(rt; "slots: standard input: {said}")?,
+        None => eprintln!(rt; "slots: standard input: {words}")?,
+    }
     Ok(true)
 }
 
