@@ -11,11 +11,10 @@ use lib.ListN.{get_or}
 use Rattle.answers.specs.Cases.{DONE}
 use Rattle.answers.specs.declared.Refusal.{Refusal}
 use Rattle.answers.specs.declared.Refusal.TheVariants.{Sizes, LongKey, NoBudget, WalkBeyond, Damaged, BadHandle, NoSlot, NoBytes}
-use Rattle.answers.specs.declared.Homed.{Homed}
-use Rattle.answers.specs.declared.Homed.TheVariants.{At, Refused}
 use Rattle.answers.specs.declared.Numbers.{Numbers}
 use Rattle.answers.specs.Refusals.{number_of}
 use Rattle.answers.specs.Numbers.{homed_numbers}
+use Rattle.std.specs.Prelude.{Result, Ok, Err}
 
 -- The refusal that a number stands for.
 refusal_of : ℕ → Refusal
@@ -53,23 +52,23 @@ pub other_case : {A : Type 0} {m n : Numbers} → m ≡ n → eqb m.case n.case 
 other_case {A} {m} {n} q e = absurd (eqb-false m.case n.case e (ap (λ x. x.case) q))
 
 -- Equal numbers are equal answers of the home slot.
-pub homed_numbers_injective : (a b : Homed) → homed_numbers a ≡ homed_numbers b → a ≡ b
-homed_numbers_injective (At s) (At t) e = ap At (ap (λ n. n.slot) e)
-homed_numbers_injective (At s) (Refused r) e = other_case e refl
-homed_numbers_injective (Refused r) (At s) e = other_case e refl
-homed_numbers_injective (Refused r) (Refused s) e = ap Refused (number_of_injective r s (ap (λ n. n.refusal) e))
+pub homed_numbers_injective : (a b : Result ℕ Refusal) → homed_numbers a ≡ homed_numbers b → a ≡ b
+homed_numbers_injective (Ok s) (Ok t) e = ap Ok (ap (λ n. n.slot) e)
+homed_numbers_injective (Ok s) (Err r) e = other_case e refl
+homed_numbers_injective (Err r) (Ok s) e = other_case e refl
+homed_numbers_injective (Err r) (Err s) e = ap Err (number_of_injective r s (ap (λ n. n.refusal) e))
 
 -- The home slot is told as case 1 with the slot.
-pub homed_slot : (s : ℕ) → ((homed_numbers (At s)).refusal ≡ 0) × ((homed_numbers (At s)).case ≡ DONE) × ((homed_numbers (At s)).slot ≡ s)
+pub homed_slot : (s : ℕ) → ((homed_numbers (Ok s)).refusal ≡ 0) × ((homed_numbers (Ok s)).case ≡ DONE) × ((homed_numbers (Ok s)).slot ≡ s)
 homed_slot s = (refl, refl, refl)
 
 -- A refusal is told by its number.
 pub homed_refusal : (r : Refusal)
-    → ((homed_numbers (Refused r)).refusal ≡ number_of r) × ((homed_numbers (Refused r)).case ≡ 0) × ((homed_numbers (Refused r)).slot ≡ 0)
+    → ((homed_numbers (Err r)).refusal ≡ number_of r) × ((homed_numbers (Err r)).case ≡ 0) × ((homed_numbers (Err r)).slot ≡ 0)
 homed_refusal r = (refl, refl, refl)
 
 -- All other numbers are 0, whatever the answer of the home slot.
-pub homed_zeros : (a : Homed) → ((homed_numbers a).key ≡ 0) × ((homed_numbers a).value ≡ 0) × ((homed_numbers a).examined ≡ 0)
+pub homed_zeros : (a : Result ℕ Refusal) → ((homed_numbers a).key ≡ 0) × ((homed_numbers a).value ≡ 0) × ((homed_numbers a).examined ≡ 0)
     × ((homed_numbers a).walk ≡ 0) × ((homed_numbers a).offset ≡ 0) × ((homed_numbers a).length ≡ 0)
-homed_zeros (At s) = (refl, refl, refl, refl, refl, refl)
-homed_zeros (Refused r) = (refl, refl, refl, refl, refl, refl)
+homed_zeros (Ok s) = (refl, refl, refl, refl, refl, refl)
+homed_zeros (Err r) = (refl, refl, refl, refl, refl, refl)

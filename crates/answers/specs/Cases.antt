@@ -1,6 +1,8 @@
 -- The paper's numbers of the cases of an answer: the one place where they are named, by the words of the C header.
 -- Assumes nothing.
 use Rattle.std.specs.Prelude.{ℕ}
+use Rattle.answers.specs.declared.Case.{Case}
+use Rattle.answers.specs.declared.Case.TheVariants.{Done, Count, Empty, Holds, Room, Found, Present, Absent, Fresh, Replaced, Removed, Occupied, Vacant, Pair, Nothing, WalkDone, Value, Was, Now}
 
 -- make, clear, copy and union are done.
 abbrev pub DONE : ℕ
@@ -69,3 +71,25 @@ WAS = 18
 
 abbrev pub NOW : ℕ
 NOW = 19
+
+-- The number of a case that the code names.
+abbrev pub case_number : Case → ℕ
+case_number Done = DONE
+case_number Count = COUNT
+case_number Empty = EMPTY
+case_number Holds = HOLDS
+case_number Room = ROOM
+case_number Found = FOUND
+case_number Present = PRESENT
+case_number Absent = ABSENT
+case_number Fresh = FRESH
+case_number Replaced = REPLACED
+case_number Removed = REMOVED
+case_number Occupied = OCCUPIED
+case_number Vacant = VACANT
+case_number Pair = PAIR
+case_number Nothing = NOTHING
+case_number WalkDone = WALK-DONE
+case_number Value = VALUE
+case_number Was = WAS
+case_number Now = NOW

@@ -1,14 +1,8 @@
--- The invariant of a loop that writes an array place by place, at any width: below i it holds what it is to hold.
-use Prim.Native.Nat.{ℕ, ◌+◌, ◌≤◌, ◌<◌}
-use mathlib.Core.List.{List}
-use mathlib.Core.Path.{◌≡◌, refl, sym, ◌∙◌}
-use native.Mathlib.Omega.{arith}
-use borrow.Author.Tests.{eqb-true, eqb-false, eq-eqb, ne_eqb}
-use mathlib.Core.Bool.{Bool, true, false}
-use lib.Dec.{eqb}
-use lib.ListN.{length, get_or, set, replicate, length-set, length-replicate, get_or-replicate}
+-- What a copied array holds; and the invariant of a loop that writes an array place by place: below i it holds what it is to hold.
+use Rattle.std.proofs.Common.{ℕ, ◌+◌, ◌≤◌, ◌<◌, List, ◌≡◌, refl, sym, ◌∙◌, arith, eqb-true, eq-eqb, ne_eqb, Bool, true, false, eqb, length, get_or, set, replicate, length-set, get_or-set_same, get_or-set_other, ext_get_or}
+use Rattle.std.proofs.lemmas.Bool.{eqb-false}
+use Rattle.std.proofs.lemmas.List.{length-replicate, get_or-replicate}
 use Rattle.arrays.specs.Whole.{copied}
-use lib.Seq.{get_or-set_same, get_or-set_other, ext_get_or}
 
 pub record Below (src s : List ℕ) (i : ℕ) : Type 0 where
   pub long : length s ≡ length src
@@ -50,11 +44,11 @@ pub copied_all : (to from s : List ℕ) (i : ℕ) → length to ≡ length from 
 unfolding copied
 copied_all to from s i e l b = rw (eq-eqb (length to) (length from) e) (below_all from s i l b)
 
-pub copied_not : (to from : List ℕ) → (length to ≡ length from → ⊥) → to ≡ copied to from
+pub copied_not : {A : Type 0} (to from : List A) → (length to ≡ length from → ⊥) → to ≡ copied to from
 unfolding copied
 copied_not to from h = rw (ne_eqb (length to) (length from) h)
 
 -- what is a copy onto a list of equal length is the other list
-pub copied_whole : (to from : List ℕ) {a : List ℕ} → length to ≡ length from → a ≡ copied to from → a ≡ from
+pub copied_whole : {A : Type 0} (to from : List A) {a : List A} → length to ≡ length from → a ≡ copied to from → a ≡ from
 unfolding copied
 copied_whole to from e p = p ∙ (rw (eq-eqb (length to) (length from) e))

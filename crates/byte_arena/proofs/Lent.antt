@@ -1,12 +1,7 @@
 -- A part of an arena, lent to a call and given back: a key copied over it, bytes moved down, and a gap closed.
-use Prim.Native.Nat.{ℕ, ◌+◌, ◌-◌, ◌≤◌, ◌<◌}
-use mathlib.Core.List.{List, ◌++◌, append_assoc}
-use mathlib.Core.Path.{◌≡◌, refl, sym, ◌∙◌, ap}
+use Rattle.std.proofs.Common.{ℕ, ◌+◌, ◌-◌, ◌≤◌, ◌<◌, List, ◌++◌, append_assoc, ◌≡◌, refl, sym, ◌∙◌, ap, arith, eq-eqb, length, get_or, take, drop, set, replicate, length-drop, length-set, length-append, drop-drop, get_or-drop, drop_at, take_at, length-take-le}
+use Rattle.std.proofs.Math.Seq.{paste, paste-zero, paste-suc, length_paste_head}
 use native.Mathlib.Numerals.{add-one}
-use native.Mathlib.Omega.{arith}
-use borrow.Author.Tests.{eq-eqb}
-use lib.ListN.{length, get_or, take, drop, set, replicate, length-drop, length-set, length-append}
-use lib.Seq.{drop-drop, paste, paste-zero, paste-suc, length_paste_head, get_or-drop, drop_at, take_at, length-take-le}
 use Rattle.lists.proofs.Parts.{get_d_behind, length_part}
 use Rattle.arrays.specs.Whole.{copied}
 use Rattle.byte_slots.specs.Memory.{part, pasted, closed}

@@ -14,16 +14,9 @@ use Rattle.model.proofs.Path.{at_below, hit_at}
 use Rattle.digest.specs.Home.{home_of, key_fits, key_limit}
 use Rattle.digest.proofs.Bounds.{home_below}
 use Rattle.answers.specs.declared.Refusal.TheVariants.{Sizes}
-use Rattle.kinds.specs.declared.Probed.{Probed}
-use Rattle.kinds.specs.declared.Probed.TheVariants as probed
 use Rattle.kinds.specs.Columns.{values, nothing}
 use Rattle.kinds.specs.Probing.{along}
 use Rattle.kinds.proofs.Bridge.{free_below}
-use Rattle.byte_slots.specs.declared.Kept.TheVariants.{Fine}
-use Rattle.byte_slots.specs.declared.InsertPlan.{InsertPlan}
-use Rattle.byte_slots.specs.declared.InsertPlan.TheVariants as insert_plan
-use Rattle.byte_slots.specs.declared.RemovePlan.{RemovePlan}
-use Rattle.byte_slots.specs.declared.RemovePlan.TheVariants as remove_plan
 use Rattle.byte_slots.specs.Keys.{byte_keys}
 use Rattle.byte_slots.specs.Memory.{Spans, ByteMemory, byte_store, bare, used_of, full_damage, fitting, asked_of, keeping, live_at}
 use Rattle.byte_slots.specs.Planning.{insert_plan_by, room_for, planning_kept, planning_insert, planning_map_insert, remove_plan_by, planning_remove, planning_map_remove}
@@ -34,21 +27,29 @@ use Rattle.byte_slots.proofs.Plans.{kept_plan_law}
 use Rattle.byte_slots.proofs.Seeking.{long_only}
 use Rattle.byte_slots.proofs.Held.{live_says, unharmed_says}
 use Rattle.byte_arena.specs.Needs.{Aligned, Fillable, Freeable}
+use Rattle.std.specs.Prelude.{Result, Ok, Err}
+use Rattle.answers.specs.declared.Refusal.{Refusal}
+use Rattle.kinds.specs.declared.Probed.{Probed}
+use Rattle.kinds.specs.declared.Probed.TheVariants.{Hit, Free, Full}
+use Rattle.byte_slots.specs.declared.InsertPlan.{InsertPlan}
+use Rattle.byte_slots.specs.declared.InsertPlan.TheVariants.{Hit, Free}
+use Rattle.byte_slots.specs.declared.RemovePlan.{RemovePlan}
+use Rattle.byte_slots.specs.declared.RemovePlan.TheVariants.{Hit}
 
-insert_plan_free : {i e u : ℕ} (v : ℕ) (room : Bool) (x : Probed) → insert_plan_by v room x ≡ insert_plan.Free i e u → (x ≡ probed.Free i e) × (room ≡ true) × (u ≡ v)
+insert_plan_free : {i e u : ℕ} (v : ℕ) (room : Bool) (x : Result Probed Refusal) → insert_plan_by v room x ≡ Ok (Free i e u) → (x ≡ Ok (Free i e)) × (room ≡ true) × (u ≡ v)
 unfolding insert_plan_by
-insert_plan_free v room (probed.Hit a b) q = clash cc
-insert_plan_free v true (probed.Free a b) q = (cc, refl, cc)
-insert_plan_free v false (probed.Free a b) q = clash cc
-insert_plan_free v room (probed.Full a) q = clash cc
-insert_plan_free v room (probed.Refused a) q = clash cc
+insert_plan_free v room (Ok (Hit a b)) q = clash cc
+insert_plan_free v true (Ok (Free a b)) q = (cc, refl, cc)
+insert_plan_free v false (Ok (Free a b)) q = clash cc
+insert_plan_free v room (Ok (Full a)) q = clash cc
+insert_plan_free v room (Err a) q = clash cc
 
-remove_plan_hit : {i e u : ℕ} (v : ℕ) (x : Probed) → remove_plan_by v x ≡ remove_plan.Hit i e u → (x ≡ probed.Hit i e) × (u ≡ v)
+remove_plan_hit : {i e u : ℕ} (v : ℕ) (x : Result Probed Refusal) → remove_plan_by v x ≡ Ok (Hit i e u) → (x ≡ Ok (Hit i e)) × (u ≡ v)
 unfolding remove_plan_by
-remove_plan_hit v (probed.Hit a b) q = (cc, cc)
-remove_plan_hit v (probed.Free a b) q = clash cc
-remove_plan_hit v (probed.Full a) q = clash cc
-remove_plan_hit v (probed.Refused a) q = clash cc
+remove_plan_hit v (Ok (Hit a b)) q = (cc, cc)
+remove_plan_hit v (Ok (Free a b)) q = clash cc
+remove_plan_hit v (Ok (Full a)) q = clash cc
+remove_plan_hit v (Err a) q = clash cc
 
 module _ (s : Spans) (k : List ℕ) where
   -- the spans as a set
@@ -61,15 +62,15 @@ module _ (s : Spans) (k : List ℕ) where
   inside : fitting s ≡ true → home_of 0 (length s.marks) k < length s.marks
   inside f = home_below 0 (length s.marks) k (fitting_says s f).some
 
-  free_slot : fitting s ≡ true → {i e : ℕ} → path_of s k ≡ probed.Free i e → i < length s.marks
+  free_slot : fitting s ≡ true → {i e : ℕ} → path_of s k ≡ Ok (Free i e) → i < length s.marks
   free_slot f q = free_below (byte_store nothing) bare_set k (inside f) (path_is nothing bare_set k ∙ q)
 
   -- a slot that the path found is one of the table's, and live
-  hit_live : fitting s ≡ true → {i e : ℕ} → path_of s k ≡ probed.Hit i e → (i < length s.marks) × live_at s i
+  hit_live : fitting s ≡ true → {i e : ℕ} → path_of s k ≡ Ok (Hit i e) → (i < length s.marks) × live_at s i
   unfolding along path
   hit_live f {i} {e} q = go (path (byte_store nothing) bare_set k) refl (path_is nothing bare_set k ∙ q)
     where
-      go : (x : Find (Unit {0})) → path (byte_store nothing) bare_set k ≡ x → along (length s.marks) (home_of 0 (length s.marks) k) x ≡ probed.Hit i e → (i < length s.marks) × live_at s i
+      go : (x : Find (Unit {0})) → path (byte_store nothing) bare_set k ≡ x → along (length s.marks) (home_of 0 (length s.marks) k) x ≡ Ok (Hit i e) → (i < length s.marks) × live_at s i
       go (hit n v) p w =
           let z : at (length s.marks) (home_of 0 (length s.marks) k) n ≡ i = cc in
           let (l, h) = hit_at byte_keys (length s.marks) (home_of 0 (length s.marks) k) (bare s) k n v p in
@@ -77,11 +78,11 @@ module _ (s : Spans) (k : List ℕ) where
       go (miss a b) p w = by_bool (ltb b (length s.marks)) (λ t. clash (cc (rw t at w))) (λ t. clash (cc (rw t at w)))
       go damage p w = clash cc
 
-  kept_short : keeping k ≡ Fine → length k ≤ key_limit
+  kept_short : keeping k ≡ Ok tt → length k ≤ key_limit
   kept_short e = by_bool (key_fits (length k)) (λ f. leb-true (length k) key_limit f) (λ f. clash (cc (rw f at e)))
 
   -- The plan of insert gives a slot to fill.
-  pub plan_fillable : {r : InsertPlan} {i e u : ℕ} → r ≡ planning_insert s k → r ≡ insert_plan.Free i e u → Fillable s i u k
+  pub plan_fillable : {r : Result InsertPlan Refusal} {i e u : ℕ} → r ≡ planning_insert s k → r ≡ Ok (Free i e u) → Fillable s i u k
   unfolding planning_insert planning_kept room_for
   plan_fillable {r} {i} {e} {u} p q = by_bool (fitting s)
       (λ f.
@@ -100,7 +101,7 @@ module _ (s : Spans) (k : List ℕ) where
       (λ f. clash (cc (rw f at (sym p ∙ q))))
 
   -- The plan of remove gives a slot to free.
-  pub plan_freeable : {r : RemovePlan} {i e u : ℕ} → r ≡ planning_remove s k → r ≡ remove_plan.Hit i e u → Freeable s i u
+  pub plan_freeable : {r : Result RemovePlan Refusal} {i e u : ℕ} → r ≡ planning_remove s k → r ≡ Ok (Hit i e u) → Freeable s i u
   unfolding planning_remove
   plan_freeable {r} {i} {e} {u} p q = by_bool (fitting s)
       (λ f. by_bool (eqb (asked_of k) 0)
@@ -116,16 +117,16 @@ module _ (s : Spans) (k : List ℕ) where
 
 -- The same of a map, whose slots then have a value too.
 module _ (m : ByteMemory values) (k : List ℕ) where
-  pub map_plan_insert_free : {r : InsertPlan} {i e u : ℕ} → r ≡ planning_map_insert m k → r ≡ insert_plan.Free i e u → Fillable m.spans i u k × (i < length m.words)
+  pub map_plan_insert_free : {r : Result InsertPlan Refusal} {i e u : ℕ} → r ≡ planning_map_insert m k → r ≡ Ok (Free i e u) → Fillable m.spans i u k × (i < length m.words)
   unfolding planning_map_insert
   map_plan_insert_free p q =
-      let (x, l) = long_only m (planning_insert m.spans k) (insert_plan.Refused Sizes) p (λ z. clash (cc)) in
+      let (x, l) = long_only m (planning_insert m.spans k) (Err Sizes) p (λ z. clash (cc)) in
       let f = plan_fillable m.spans k x q in
       (f, omega (arith, f.aligned.slot))
 
-  pub map_plan_remove_hit : {r : RemovePlan} {i e u : ℕ} → r ≡ planning_map_remove m k → r ≡ remove_plan.Hit i e u → Freeable m.spans i u × (i < length m.words)
+  pub map_plan_remove_hit : {r : Result RemovePlan Refusal} {i e u : ℕ} → r ≡ planning_map_remove m k → r ≡ Ok (Hit i e u) → Freeable m.spans i u × (i < length m.words)
   unfolding planning_map_remove
   map_plan_remove_hit p q =
-      let (x, l) = long_only m (planning_remove m.spans k) (remove_plan.Refused Sizes) p (λ z. clash (cc)) in
+      let (x, l) = long_only m (planning_remove m.spans k) (Err Sizes) p (λ z. clash (cc)) in
       let f = plan_freeable m.spans k x q in
       (f, omega (arith, f.aligned.slot))

@@ -5,8 +5,9 @@ ghost use Rattle.std.specs.Prelude.{◌≡◌, ◌+◌, ◌≤◌, length};
 ghost use Rattle.byte_slots.specs.Memory.{part, pasted, closed, fall, fallen, filled, emptied, wiped, spans_now, spans_before, spans_after};
 ghost use Rattle.byte_arena.specs.Needs.{Fillable, Freeable};
 
-use arrays::{clear_bytes, clear_shorts, copy_bytes};
+use arrays::copy;
 use byte_slots::{len_at, offset_at, put_len};
+use kinds::Mark;
 
 // The key's bytes go into the arena from a place on.
 fn paste(arena: &mut [u8], at: usize, key: &[u8])
@@ -14,7 +15,7 @@ fn paste(arena: &mut [u8], at: usize, key: &[u8])
     ensures { arena.new ≡ pasted arena.old at key.now }
 {
     let end = at + key.len();
-    copy_bytes(&mut arena[at..end], key);
+    copy(&mut arena[at..end], key);
 }
 
 // So many bytes of the arena move down from one place to another.
@@ -22,10 +23,8 @@ fn shift_down(arena: &mut [u8], to: usize, from: usize, count: usize)
     requires { (to ≤ from) × (from + count ≤ length arena.old) }
     ensures { arena.new ≡ pasted arena.old to (part arena.old from count) }
 {
-    let mut i = 0;
-    while i < count {
+    for i in 0..count {
         arena[to + i] = arena[from + i];
-        i += 1;
     }
 }
 
@@ -37,21 +36,20 @@ fn close_gap(arena: &mut [u8], offset: usize, len: usize, used: usize)
     let end = offset + len;
     shift_down(arena, offset, end, used - end);
     let vacated = used - len;
-    clear_bytes(&mut arena[vacated..used]);
+    arena[vacated..used].fill(0);
 }
 
 // The offset of a slot with this mark, after the spans from an end on fell.
+#[tactic(auto, unfolding(byte_slots::specs::Memory::fall))]
 fn lowered(mark: u8, offset: u16, end: u16, len: u16) -> u16
     requires { len ≤ end }
     ensures { result ≡ fall end len mark offset }
 {
-    if mark == 1 {
-        if end <= offset {
-            return offset - len;
-        }
-        return offset;
+    if mark == Mark::Live as u8 && end <= offset {
+        offset - len
+    } else {
+        offset
     }
-    offset
 }
 
 // Each live offset from an end on falls.
@@ -59,11 +57,8 @@ fn fall_offsets(marks: &[u8], offsets: &mut [u16], end: u16, len: u16)
     requires { (length offsets.old ≡ length marks.now) × (len ≤ end) }
     ensures { offsets.new ≡ fallen end len marks.now offsets.old }
 {
-    let n = marks.len();
-    let mut i = 0;
-    while i < n {
-        offsets[i] = lowered(marks[i], offsets[i], end, len);
-        i += 1;
+    for (i, offset) in offsets.iter_mut().enumerate() {
+        *offset = lowered(marks[i], *offset, end, len);
     }
 }
 
@@ -81,7 +76,7 @@ pub fn fill(
     ensures { spans_after marks.new offsets.new lengths.new arena.new ≡ filled (spans_before marks.old offsets.old lengths.old arena.old) slot key.now }
 {
     paste(arena, used, key);
-    marks[slot] = 1;
+    marks[slot] = Mark::Live as u8;
     offsets[slot] = used as u16;
     put_len(lengths, slot, key.len());
 }
@@ -102,7 +97,7 @@ pub fn free(
     let len = len_at(lengths, slot);
     close_gap(arena, offset as usize, len as usize, used);
     fall_offsets(marks, offsets, offset + len, len);
-    marks[slot] = 2;
+    marks[slot] = Mark::Freed as u8;
     offsets[slot] = 0;
     put_len(lengths, slot, 0);
 }
@@ -111,8 +106,8 @@ pub fn free(
 pub fn wipe(marks: &mut [u8], offsets: &mut [u16], lengths: &mut [u8], arena: &mut [u8])
     ensures { spans_after marks.new offsets.new lengths.new arena.new ≡ wiped (spans_before marks.old offsets.old lengths.old arena.old) }
 {
-    clear_bytes(marks);
-    clear_shorts(offsets);
-    clear_bytes(lengths);
-    clear_bytes(arena);
+    marks.fill(0);
+    offsets.fill(0);
+    lengths.fill(0);
+    arena.fill(0);
 }

@@ -1,6 +1,5 @@
 -- Each contract settles its answer and the lent arrays: two results that it allows are equal.
-use Prim.Native.Nat.{ℕ}
-use mathlib.Core.List.{List}
+use Rattle.std.proofs.Common.{ℕ, List}
 use Rattle.answers.specs.Numbers.{outcome_numbers, stored_numbers, removed_numbers}
 use Rattle.answers.proofs.Equal.{outcome_numbers_injective, stored_numbers_injective, removed_numbers_injective}
 use Rattle.kinds.specs.Columns.{values}

@@ -8,27 +8,27 @@ ghost use Rattle.kinds.specs.Calls.{make_of, copy_of, remove_of};
 ghost use Rattle.byte_slots.specs.Kinds.{maps, insert_of};
 ghost use Rattle.byte_slots.specs.Maps.{before, after};
 
-use answers::{Outcome, Refusal, Removed, Stored};
-use arrays::{clear_words, copy_bytes, copy_shorts, copy_words};
+use answers::{Lookup, Refusal, Stored};
 use byte_arena::{fill, free, wipe};
 use byte_slots::{InsertPlan, RemovePlan, map_fits, map_plan_insert, map_plan_remove};
 
 // Makes an empty map of the lent arrays.
+#[tactic(auto, unfolding(kinds::specs::Calls::sized_of), using(crate::proofs::Laws::make_done, kinds::proofs::Sizing::make_unsized))]
 pub fn make(
     marks: &mut [u8],
     offsets: &mut [u16],
     lengths: &mut [u8],
     values: &mut [u64],
     arena: &mut [u8],
-) -> Outcome
+) -> Result<(), Refusal>
     ensures { told (outcome_numbers result) (after marks.new offsets.new lengths.new values.new arena.new) ≡ make_of maps (before marks.old offsets.old lengths.old values.old arena.old) }
 {
     if map_fits(marks, offsets, lengths, values, arena) {
         wipe(marks, offsets, lengths, arena);
-        clear_words(values);
-        Outcome::Done
+        values.fill(0);
+        Ok(())
     } else {
-        Outcome::Refused(Refusal::Sizes)
+        Err(Refusal::Sizes)
     }
 }
 
@@ -39,7 +39,7 @@ pub fn clear(
     lengths: &mut [u8],
     values: &mut [u64],
     arena: &mut [u8],
-) -> Outcome
+) -> Result<(), Refusal>
     ensures { told (outcome_numbers result) (after marks.new offsets.new lengths.new values.new arena.new) ≡ make_of maps (before marks.old offsets.old lengths.old values.old arena.old) }
 {
     make(marks, offsets, lengths, values, arena)
@@ -54,22 +54,21 @@ pub fn insert(
     arena: &mut [u8],
     key: &[u8],
     value: u64,
-) -> Stored
+) -> Result<Stored<u64>, Refusal>
     ensures { told (stored_numbers result) (after marks.new offsets.new lengths.new values.new arena.new) ≡ insert_of (before marks.old offsets.old lengths.old values.old arena.old) key.now value }
 {
-    let plan = map_plan_insert(marks, offsets, lengths, values, arena, key);
+    let plan = map_plan_insert(marks, offsets, lengths, values, arena, key)?;
     match plan {
         InsertPlan::Hit(slot, examined) => {
             let old = values[slot];
             values[slot] = value;
-            Stored::Replaced(old, slot, examined)
+            Ok(Stored::Replaced(old, slot, examined))
         }
         InsertPlan::Free(slot, examined, used) => {
             fill(marks, offsets, lengths, arena, slot, used, key);
             values[slot] = value;
-            Stored::Fresh(slot, used, examined)
+            Ok(Stored::Fresh(slot, used, examined))
         }
-        InsertPlan::Refused(r) => Stored::Refused(r),
     }
 }
 
@@ -81,23 +80,23 @@ pub fn remove(
     values: &mut [u64],
     arena: &mut [u8],
     key: &[u8],
-) -> Removed
+) -> Result<Lookup<u64>, Refusal>
     ensures { told (removed_numbers result) (after marks.new offsets.new lengths.new values.new arena.new) ≡ remove_of maps (before marks.old offsets.old lengths.old values.old arena.old) key.now }
 {
-    let plan = map_plan_remove(marks, offsets, lengths, values, arena, key);
+    let plan = map_plan_remove(marks, offsets, lengths, values, arena, key)?;
     match plan {
         RemovePlan::Hit(slot, examined, used) => {
             let old = values[slot];
             free(marks, offsets, lengths, arena, slot, used);
             values[slot] = 0;
-            Removed::Removed(old, slot, examined)
+            Ok(Lookup::Found(old, slot, examined))
         }
-        RemovePlan::Absent(examined) => Removed::Absent(examined),
-        RemovePlan::Refused(r) => Removed::Refused(r),
+        RemovePlan::Absent(examined) => Ok(Lookup::Absent(examined)),
     }
 }
 
 // Makes a map equal to another of equal sizes, in every slot and byte.
+#[tactic(auto, unfolding(kinds::specs::Calls::sized_of), using(crate::proofs::Laws::copy_done, kinds::proofs::Copying::copy_slots, kinds::proofs::Copying::copy_arena, kinds::proofs::Copying::copy_from_unsized, kinds::proofs::Copying::copy_unsized))]
 pub fn copy(
     to_marks: &mut [u8],
     to_offsets: &mut [u16],
@@ -109,23 +108,21 @@ pub fn copy(
     lengths: &[u8],
     values: &[u64],
     arena: &[u8],
-) -> Outcome
+) -> Result<(), Refusal>
     ensures { told (outcome_numbers result) (after to_marks.new to_offsets.new to_lengths.new to_values.new to_arena.new) ≡ copy_of maps (before to_marks.old to_offsets.old to_lengths.old to_values.old to_arena.old) (before marks.now offsets.now lengths.now values.now arena.now) }
 {
-    if to_arena.len() != arena.len() {
-        return Outcome::Refused(Refusal::Sizes);
+    if !map_fits(to_marks, to_offsets, to_lengths, to_values, to_arena)
+        || !map_fits(marks, offsets, lengths, values, arena)
+    {
+        return Err(Refusal::Sizes);
     }
-    if map_fits(to_marks, to_offsets, to_lengths, to_values, to_arena) {
-        if map_fits(marks, offsets, lengths, values, arena) {
-            if to_marks.len() == marks.len() {
-                copy_bytes(to_marks, marks);
-                copy_shorts(to_offsets, offsets);
-                copy_bytes(to_lengths, lengths);
-                copy_words(to_values, values);
-                copy_bytes(to_arena, arena);
-                return Outcome::Done;
-            }
-        }
+    if to_marks.len() != marks.len() || to_arena.len() != arena.len() {
+        return Err(Refusal::Sizes);
     }
-    Outcome::Refused(Refusal::Sizes)
+    arrays::copy(to_marks, marks);
+    arrays::copy(to_offsets, offsets);
+    arrays::copy(to_lengths, lengths);
+    arrays::copy(to_values, values);
+    arrays::copy(to_arena, arena);
+    Ok(())
 }

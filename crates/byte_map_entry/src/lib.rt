@@ -11,15 +11,16 @@ ghost use Rattle.byte_map_vacant.specs.Numbers.{in_slot_numbers};
 ghost use Rattle.byte_map_entry.specs.Numbers.{entered_numbers};
 ghost use Rattle.byte_map_entry.specs.Calls.{vacant_slot_of, handle_of};
 
-use answers::{Numbers, OCCUPIED, Refusal, VACANT, case_numbers, refusal_numbers};
+use answers::{Case, Numbers, Refusal, case_numbers};
 use byte_slots::{InsertPlan, map_plan_insert};
 
-// The handles and the answers of their calls stand in `byte_map_occupied` and `byte_map_vacant`, and are had here too.
-pub use byte_map_occupied::{Held, Occupied, Swapped, Taken};
-pub use byte_map_vacant::{InSlot, Vacant};
+// The handles stand in `byte_map_occupied` and `byte_map_vacant`, and are had here too.
+pub use byte_map_occupied::Occupied;
+pub use byte_map_vacant::Vacant;
 
 // The answer of entry: an occupied handle with the value, or a vacant one, each with the examined number.
-#[derive(Drop)]
+// It has a variant for a refusal, and is no `Result`, since its own calls promise what they tell of a refused entry.
+#[derive(Clone, Copy, Debug, PartialEq, Eq)]
 pub enum Entered {
     Occupied(Occupied, u64, usize),
     Vacant(Vacant, usize),
@@ -39,25 +40,26 @@ pub fn entry(
 {
     let plan = map_plan_insert(marks, offsets, lengths, values, arena, key);
     match plan {
-        InsertPlan::Hit(slot, examined) => Entered::Occupied(
+        Ok(InsertPlan::Hit(slot, examined)) => Entered::Occupied(
             Occupied { slot },
             values[slot],
             examined,
         ),
-        InsertPlan::Free(slot, examined, _) => Entered::Vacant(Vacant { slot }, examined),
-        InsertPlan::Refused(r) => Entered::Refused(r),
+        Ok(InsertPlan::Free(slot, examined, _)) => Entered::Vacant(Vacant { slot }, examined),
+        Err(refusal) => Entered::Refused(refusal),
     }
 }
 
 impl Entered {
     // The vacant handle of an answer that is not occupied; a refused one counts as a handle of slot S.
+    #[tactic(auto, unfolding(crate::specs::Calls::vacant_slot_of))]
     fn vacant(self, size: usize) -> Vacant
         ensures { result.slot ≡ vacant_slot_of size self }
     {
-        let Entered::Vacant(vacant, _) = self else {
-            return Vacant { slot: size };
-        };
-        vacant
+        match self {
+            Entered::Vacant(vacant, _) => vacant,
+            Entered::Occupied(..) | Entered::Refused(_) => Vacant { slot: size },
+        }
     }
 
     // Keeps a present value, else puts the default in; the value now in the slot is answered.
@@ -70,19 +72,16 @@ impl Entered {
         arena: &mut [u8],
         key: &[u8],
         default: u64,
-    ) -> InSlot
+    ) -> Result<(Occupied, u64), Refusal>
         ensures { told (in_slot_numbers result) (after marks.new offsets.new lengths.new values.new arena.new) ≡ or_insert_of maps (before marks.old offsets.old lengths.old values.old arena.old) (handle_of (length marks.old) self) key.now default }
     {
-        let Entered::Occupied(handle, _, _) = self else {
+        let Entered::Occupied(handle, ..) = self else {
             return self
                 .vacant(marks.len())
                 .insert(marks, offsets, lengths, values, arena, key, default);
         };
-        let held = handle.get(marks, offsets, lengths, values, arena, key);
-        match held {
-            Held::Value(value, _) => InSlot::Now(handle, value),
-            Held::Refused(r) => InSlot::Refused(r),
-        }
+        let (present, _) = handle.get(marks, offsets, lengths, values, arena, key)?;
+        Ok((handle, present))
     }
 
     // Replaces a present value, else puts the value in; the value now in the slot is answered.
@@ -95,59 +94,54 @@ impl Entered {
         arena: &mut [u8],
         key: &[u8],
         value: u64,
-    ) -> InSlot
+    ) -> Result<(Occupied, u64), Refusal>
         ensures { told (in_slot_numbers result) (after marks.new offsets.new lengths.new values.new arena.new) ≡ insert_entry_of maps (before marks.old offsets.old lengths.old values.old arena.old) (handle_of (length marks.old) self) key.now value }
     {
-        let Entered::Occupied(handle, _, _) = self else {
+        let Entered::Occupied(handle, ..) = self else {
             return self
                 .vacant(marks.len())
                 .insert(marks, offsets, lengths, values, arena, key, value);
         };
-        let swapped = handle.set(marks, offsets, lengths, values, arena, key, value);
-        match swapped {
-            Swapped::Was(_, _) => InSlot::Now(handle, value),
-            Swapped::Refused(r) => InSlot::Refused(r),
-        }
+        handle.set(marks, offsets, lengths, values, arena, key, value)?;
+        Ok((handle, value))
     }
 }
 
 // The numbers of entry.
+#[tactic(auto, unfolding(crate::specs::Numbers::entered_numbers))]
 pub fn entered_numbers(a: Entered) -> Numbers
     ensures { result ≡ entered_numbers a }
 {
     match a {
         Entered::Occupied(handle, value, examined) => case_numbers(
-            OCCUPIED,
+            Case::Occupied,
             0,
             value,
             handle.slot,
             examined,
         ),
-        Entered::Vacant(handle, examined) => case_numbers(VACANT, 0, 0, handle.slot, examined),
-        Entered::Refused(r) => refusal_numbers(r),
+        Entered::Vacant(handle, examined) => case_numbers(
+            Case::Vacant,
+            0,
+            0,
+            handle.slot,
+            examined,
+        ),
+        Entered::Refused(refusal) => Numbers::from(refusal),
     }
 }
 
 // The entry answer of a case number and a slot: 12 is occupied, 13 vacant, any other number neither.
+#[tactic(auto, unfolding(crate::specs::Calls::handle_of, kinds::specs::Handing::handle_as))]
 pub fn entry_by_case(case: u64, slot: u64) -> Entered
     ensures { Hands handle_of result case slot }
 {
-    if case == OCCUPIED {
-        return Entered::Occupied(
-            Occupied {
-                slot: slot as usize,
-            },
-            0,
-            0,
-        );
+    let slot = slot as usize;
+    if case == u64::from(Case::Occupied) {
+        Entered::Occupied(Occupied { slot }, 0, 0)
+    } else if case == u64::from(Case::Vacant) {
+        Entered::Vacant(Vacant { slot }, 0)
+    } else {
+        Entered::Refused(Refusal::BadHandle)
     }
-    if case == VACANT {
-        return Entered::Vacant(
-            Vacant {
-                slot: slot as usize,
-            },
-            0,
-        );
-    }
-    Entered::Refused(Refusal::BadHandle)
 }

@@ -1,97 +1,60 @@
 -- Removal by handle: what its plan says, and what remove and remove_entry tell and leave by it.
-use Prim.Native.Nat.{ℕ, zero, suc, ◌<◌}
-use mathlib.Core.Bool.{Bool, true, false, ◌&&◌}
-use mathlib.Core.List.{List}
-use mathlib.Core.Path.{◌≡◌, refl, sym, ◌∙◌}
-use native.Mathlib.Omega.{arith}
-use borrow.Author.Tests.{eqb-true}
-use lib.Dec.{eqb}
-use lib.ListN.{length, get_or, set}
+use Rattle.std.proofs.Common.{ℕ, zero, suc, ◌<◌, ◌&&◌, List, ◌≡◌, refl, sym, ap, ◌∙◌, arith, eqb-true, eqb, length, get_or, set, Result, Ok, Err}
 use Rattle.model.specs.Calls.{Or, no, ok, need, pass, occupied_remove, after_drop, acted}
 use Rattle.model.proofs.Cases.{by_bool, by_lt, clash}
 use Rattle.answers.specs.declared.Refusal.{Refusal}
-use Rattle.answers.specs.declared.Refusal.TheVariants.{Sizes, LongKey}
-use Rattle.answers.specs.declared.Refusal.TheVariants as refusal
 use Rattle.answers.specs.Refusals.{number_of}
 use Rattle.answers.specs.Said.{taken_said}
-use Rattle.kinds.specs.declared.Sight.{Sight}
-use Rattle.kinds.specs.declared.Sight.TheVariants.{Never, Freed, Damaged, Same, Other}
 use Rattle.kinds.specs.Calls.{sized_of, taken_of}
 use Rattle.kinds.specs.Columns.{values}
 use Rattle.kinds.specs.Marks.{cell}
 use Rattle.kinds.specs.Probing.{look_at, look_of}
 use Rattle.kinds.specs.Told.{told}
-use Rattle.byte_slots.specs.declared.Surveyed.{Surveyed}
-use Rattle.byte_slots.specs.declared.Surveyed.TheVariants as surveyed
 use Rattle.byte_slots.specs.Keys.{byte_keys}
 use Rattle.byte_slots.specs.Kinds.{maps}
 use Rattle.byte_slots.specs.Marks.{mark_of}
 use Rattle.byte_slots.specs.Memory.{Spans, ByteMemory, key_at, used_of, full_damage, fitting, asked_of, emptied, live_at}
 use Rattle.byte_slots.specs.Probing.{sight_at}
-use Rattle.byte_slots.specs.Surveying.{surveying}
 use Rattle.byte_slots.proofs.Bridge.{asked_no}
 use Rattle.byte_slots.proofs.Held.{unharmed_says}
 use Rattle.byte_slots.proofs.Marks.{mark_raw}
-use Rattle.byte_slots.proofs.Plans.{surveyed_bad, surveyed_used}
 use Rattle.byte_slots.proofs.Sizes.{fitting_says}
 use Rattle.byte_arena.specs.Needs.{Freeable}
 use Rattle.byte_slots.proofs.MapSizes.{sized_fits, same_long}
-use Rattle.byte_map_occupied.specs.declared.Held.{Held}
-use Rattle.byte_map_occupied.specs.declared.Held.TheVariants as held
-use Rattle.byte_map_occupied.specs.declared.RemovalPlan.{RemovalPlan}
-use Rattle.byte_map_occupied.specs.declared.RemovalPlan.TheVariants as removal_plan
-use Rattle.byte_map_occupied.specs.declared.Taken.TheVariants as taken
 use Rattle.byte_map_occupied.specs.Numbers.{taken_numbers}
 use Rattle.byte_map_occupied.specs.Planning.{held_by, value_in, removal_plan_by, planning_removal}
 use Rattle.byte_map_occupied.proofs.Values.{value_of, grip_value}
+use Rattle.byte_map_occupied.specs.declared.Occupied.{Occupied}
+use Rattle.kinds.specs.declared.Sight.{Sight}
+use Rattle.kinds.specs.declared.Sight.TheVariants.{Never, Freed, Same, Other}
 
 -- What a removal's plan says in the theory's words.
-abbrev removed_of : RemovalPlan → Or ℕ
-removed_of (removal_plan.Out v u) = ok v
-removed_of (removal_plan.Refused r) = no (number_of r)
+abbrev removed_of : Result (ℕ × ℕ) Refusal → Or ℕ
+removed_of (Ok (v, u)) = ok v
+removed_of (Err r) = no (number_of r)
 
-removal_value : (u : ℕ) (h : Held) → value_of h ≡ removed_of (removal_plan_by u h)
+removal_value : (u : ℕ) (h : Result (ℕ × Occupied) Refusal) → value_of h ≡ removed_of (removal_plan_by u h)
 unfolding removal_plan_by
-removal_value u (held.Value v h) = refl
-removal_value u (held.Refused r) = refl
+removal_value u (Ok (v, h)) = refl
+removal_value u (Err r) = refl
 
 -- a plan that takes a value out has a look that found the key
-look_live : (k a : List ℕ) (m : ℕ) → look_of byte_keys k m a ≡ Same → m ≡ 1
+look_live : (k a : List ℕ) (m : ℕ) → look_of byte_keys k m a ≡ Ok Same → m ≡ 1
 unfolding look_of look_at cell
 look_live k a zero e = clash cc
 look_live k a (suc zero) e = refl
 look_live k a (suc (suc zero)) e = clash cc
 look_live k a (suc (suc (suc m))) e = clash cc
 
-held_same : (i w u v x : ℕ) (s : Sight) → removal_plan_by u (held_by i w s) ≡ removal_plan.Out v x → (s ≡ Same) × (u ≡ x)
+held_same : (i w u v x : ℕ) (s : Result Sight Refusal) → removal_plan_by u (held_by i w s) ≡ Ok (v, x) → (s ≡ Ok Same) × (u ≡ x)
 unfolding held_by removal_plan_by
-held_same i w u v x Never e = clash cc
-held_same i w u v x Freed e = clash cc
-held_same i w u v x Damaged e = clash cc
-held_same i w u v x Same e = (refl, cc)
-held_same i w u v x Other e = clash cc
+held_same i w u v x (Ok Never) e = clash cc
+held_same i w u v x (Ok Freed) e = clash cc
+held_same i w u v x (Err r) e = clash cc
+held_same i w u v x (Ok Same) e = let z : ◌≡◌ {A = ℕ × ℕ} (w, u) (v, x) = cc in (refl, ap (λ p. p.1) z)
+held_same i w u v x (Ok Other) e = clash cc
 
 module _ (m : ByteMemory values) (i : ℕ) (k : List ℕ) where
-  -- the plan, as the code makes it
-  module _ {b : Bool} (p : b ≡ sized_of maps m) where
-    pub removal_unfit : b ≡ false → removal_plan.Refused Sizes ≡ planning_removal m i k
-    unfolding planning_removal
-    removal_unfit q = rw (sym p ∙ q)
-
-    module _ (q : b ≡ true) {t : Bool} (w : t ≡ eqb (asked_of k) 0) where
-      pub removal_long : t ≡ false → removal_plan.Refused LongKey ≡ planning_removal m i k
-      unfolding planning_removal
-      removal_long e = rw (sym p ∙ q, sym w ∙ e)
-
-      module _ (e : t ≡ true) {r : Surveyed} (v : r ≡ surveying m.spans) where
-        pub removal_bad : r ≡ surveyed.Damaged → removal_plan.Refused refusal.Damaged ≡ planning_removal m i k
-        unfolding planning_removal
-        removal_bad x = rw (sym p ∙ q, sym w ∙ e, surveyed_bad m.spans v x)
-
-        pub removal_slot : {u : ℕ} {h : Held} {a : RemovalPlan} → r ≡ surveyed.Used u → h ≡ value_in m i k → a ≡ removal_plan_by u h → a ≡ planning_removal m i k
-        unfolding planning_removal
-        removal_slot x y z = let (n, o) = surveyed_used m.spans v x in rw (sym p ∙ q, sym w ∙ e, n, ← y, ← o) z
-
   -- an occupied handle's removal, by its plan
   remove_planned : occupied_remove maps m i k ≡ removed_of (planning_removal m i k)
   unfolding occupied_remove planning_removal sized_of need pass
@@ -104,7 +67,7 @@ module _ (m : ByteMemory values) (i : ℕ) (k : List ℕ) where
       (λ f. rw f)
 
   -- what a plan that takes a value out says of its slot
-  out_live : {v u x : ℕ} → removal_plan_by u (value_in m i k) ≡ removal_plan.Out v x → (i < length m.spans.marks) × live_at m.spans i × (u ≡ x)
+  out_live : {v u x : ℕ} → removal_plan_by u (value_in m i k) ≡ Ok (v, x) → (i < length m.spans.marks) × live_at m.spans i × (u ≡ x)
   unfolding value_in removal_plan_by sight_at
   out_live {v} {u} {x} q = by_lt i (length m.spans.marks)
       (λ l e.
@@ -113,7 +76,7 @@ module _ (m : ByteMemory values) (i : ℕ) (k : List ℕ) where
       (l, sym (mark_raw m.spans i (omega arith)) ∙ one, b))
       (λ l e. clash (cc (rw e at q)))
 
-  freeable : {v u : ℕ} → planning_removal m i k ≡ removal_plan.Out v u → Freeable m.spans i u × (i < length m.words)
+  freeable : {v u : ℕ} → planning_removal m i k ≡ Ok (v, u) → Freeable m.spans i u × (i < length m.words)
   unfolding planning_removal
   freeable q = by_bool (sized_of maps m)
       (λ f. by_bool (eqb (asked_of k) 0)
@@ -136,20 +99,20 @@ module _ (m : ByteMemory values) (i : ℕ) (k : List ℕ) where
       (λ f. clash (cc (rw f at q)))
 
   -- where the plan answered r
-  module _ {r : RemovalPlan} (p : r ≡ planning_removal m i k) where
-    pub removal_freeable : {v u : ℕ} → r ≡ removal_plan.Out v u → Freeable m.spans i u
+  module _ {r : Result (ℕ × ℕ) Refusal} (p : r ≡ planning_removal m i k) where
+    pub removal_freeable : {v u : ℕ} → r ≡ Ok (v, u) → Freeable m.spans i u
     removal_freeable q = (freeable (sym p ∙ q)).0
 
-    pub removal_inside : {v u : ℕ} → r ≡ removal_plan.Out v u → i < length m.words
+    pub removal_inside : {v u : ℕ} → r ≡ Ok (v, u) → i < length m.words
     removal_inside q = (freeable (sym p ∙ q)).1
 
-    planned : {x : RemovalPlan} → r ≡ x → occupied_remove maps m i k ≡ removed_of x
+    planned : {x : Result (ℕ × ℕ) Refusal} → r ≡ x → occupied_remove maps m i k ≡ removed_of x
     planned q = rw (← q, p) remove_planned
 
-    pub remove_done : {old u : ℕ} {t : Spans} → r ≡ removal_plan.Out old u → t ≡ emptied m.spans i → told (taken_numbers (taken.Removed old)) (record { spans = t; words = set m.words i 0 }) ≡ taken_of maps m i k
+    pub remove_done : {old u : ℕ} {t : Spans} → r ≡ Ok (old, u) → t ≡ emptied m.spans i → told (taken_numbers (Ok old)) (record { spans = t; words = set m.words i 0 }) ≡ taken_of maps m i k
     unfolding taken_of after_drop acted taken_numbers taken_said
     remove_done q e = rw (planned q, ← e)
 
-    pub remove_refused : {x : Refusal} → r ≡ removal_plan.Refused x → told (taken_numbers (taken.Refused x)) m ≡ taken_of maps m i k
+    pub remove_refused : {x : Refusal} → r ≡ Err x → told (taken_numbers (Err x)) m ≡ taken_of maps m i k
     unfolding taken_of after_drop acted taken_numbers taken_said
     remove_refused q = rw (planned q)

@@ -1,20 +1,10 @@
 -- Occupied handles: what the slot says, and what get, set, remove and remove_entry tell and leave by it.
-use Prim.Native.Nat.{ℕ, zero, suc, ◌≤◌, ◌<◌}
-use mathlib.Core.Bool.{Bool, true, false, ◌&&◌}
-use mathlib.Core.List.{List}
-use mathlib.Core.Path.{◌≡◌, refl, sym, ◌∙◌}
-use native.Mathlib.Omega.{arith}
-use borrow.Author.Tests.{lt-ltb, le-ltb, eqb-true}
-use lib.Dec.{eqb}
-use lib.ListN.{length, get_or, set}
+use Rattle.std.proofs.Common.{ℕ, zero, suc, ◌<◌, ◌&&◌, List, ◌≡◌, refl, sym, ap, ◌∙◌, arith, eqb-true, eqb, length, get_or, set, Result, Ok, Err}
 use Rattle.model.specs.Calls.{Or, no, ok, need, pass, held_on, held_at, occupied_get, after_set, acted}
 use Rattle.model.proofs.Cases.{by_bool, by_lt, clash}
 use Rattle.answers.specs.declared.Refusal.{Refusal}
-use Rattle.answers.specs.declared.Refusal.TheVariants.{Sizes, LongKey, BadHandle}
 use Rattle.answers.specs.Refusals.{number_of}
 use Rattle.answers.specs.Said.{held_said, swapped_said}
-use Rattle.kinds.specs.declared.Sight.{Sight}
-use Rattle.kinds.specs.declared.Sight.TheVariants.{Never, Freed, Damaged, Same, Other}
 use Rattle.kinds.specs.Calls.{sized_of, held_of, set_of}
 use Rattle.kinds.specs.Columns.{values}
 use Rattle.kinds.specs.Marks.{cell}
@@ -29,16 +19,15 @@ use Rattle.byte_slots.proofs.Bridge.{asked_no}
 use Rattle.byte_slots.proofs.Marks.{slot_cell}
 use Rattle.byte_slots.proofs.MapSizes.{same_long}
 use Rattle.byte_map_occupied.specs.declared.Occupied.{Occupied}
-use Rattle.byte_map_occupied.specs.declared.Held.{Held}
-use Rattle.byte_map_occupied.specs.declared.Held.TheVariants as held
-use Rattle.byte_map_occupied.specs.declared.Swapped.TheVariants as swapped
 use Rattle.byte_map_occupied.specs.Numbers.{held_numbers, swapped_numbers}
 use Rattle.byte_map_occupied.specs.Planning.{held_by, value_in, value_for}
+use Rattle.kinds.specs.declared.Sight.{Sight}
+use Rattle.kinds.specs.declared.Sight.TheVariants.{Never, Freed, Same, Other}
 
 -- What a handle's test says in the theory's words.
-abbrev pub value_of : Held → Or ℕ
-value_of (held.Value v h) = ok v
-value_of (held.Refused r) = no (number_of r)
+abbrev pub value_of : Result (ℕ × Occupied) Refusal → Or ℕ
+value_of (Ok (v, h)) = ok v
+value_of (Err r) = no (number_of r)
 
 -- what a slot with this mark and key says to the handle is what it says to the path
 value_cell : (i : ℕ) (a k : List ℕ) (v m : ℕ) → held_on maps k (cell m a v) ≡ value_of (held_by i v (look_of maps.keys k m a))
@@ -49,44 +38,21 @@ value_cell i a k v (suc (suc zero)) = refl
 value_cell i a k v (suc (suc (suc m))) = refl
 
 -- a handle's test answers with the handle itself
-held_slot : (i v w : ℕ) {h : Occupied} (s : Sight) → held_by i v s ≡ held.Value w h → h.slot ≡ i
+held_slot : (i v w : ℕ) {h : Occupied} (s : Result Sight Refusal) → held_by i v s ≡ Ok (w, h) → h.slot ≡ i
 unfolding held_by
-held_slot i v w Never e = clash cc
-held_slot i v w Freed e = clash cc
-held_slot i v w Damaged e = clash cc
-held_slot i v w Same e = cc
-held_slot i v w Other e = clash cc
+held_slot i v w (Ok Never) e = clash cc
+held_slot i v w (Ok Freed) e = clash cc
+held_slot i v w (Err r) e = clash cc
+held_slot i v w {h} (Ok Same) e = let z : ◌≡◌ {A = ℕ × Occupied} (v, record { slot = i }) (w, h) = cc in sym (ap (λ p. p.1.slot) z)
+held_slot i v w (Ok Other) e = clash cc
 
 module _ (m : ByteMemory values) (i : ℕ) (k : List ℕ) where
-  -- the handle's test, as the code makes it
-  pub value_look : {s : Sight} {r : Held} → i < length m.spans.marks → s ≡ sight_at m.spans k i → r ≡ held_by i (get_or m.words i 0) s → r ≡ value_in m i k
-  unfolding value_in
-  value_look l p q = rw (lt-ltb i (length m.spans.marks) l, ← p) q
-
-  pub value_beyond : length m.spans.marks ≤ i → held.Refused BadHandle ≡ value_in m i k
-  unfolding value_in
-  value_beyond l = rw (le-ltb i (length m.spans.marks) l)
-
-  -- and in the theory
+  -- the handle's test in the theory
   pub grip_value : held_at maps m i k ≡ value_of (value_in m i k)
   unfolding held_at value_in need sight_at
   grip_value = by_lt i (length m.spans.marks)
       (λ l e. rw (e, slot_cell m.spans (λ j. get_or m.words j 0) i) (value_cell i (key_at m.spans i) k (get_or m.words i 0) (mark_of m.spans i)))
       (λ l e. rw e)
-
-  module _ {b : Bool} (p : b ≡ sized_of maps m) where
-    pub value_unfit : b ≡ false → held.Refused Sizes ≡ value_for m i k
-    unfolding value_for
-    value_unfit q = rw (sym p ∙ q)
-
-    module _ (q : b ≡ true) {t : Bool} (w : t ≡ eqb (asked_of k) 0) where
-      pub value_long : t ≡ false → held.Refused LongKey ≡ value_for m i k
-      unfolding value_for
-      value_long e = rw (sym p ∙ q, sym w ∙ e)
-
-      pub value_slot : {r : Held} → t ≡ true → r ≡ value_in m i k → r ≡ value_for m i k
-      unfolding value_for
-      value_slot e g = rw (sym p ∙ q, sym w ∙ e) g
 
   -- an occupied handle's get, by its plan
   get_value : occupied_get maps m i k ≡ value_of (value_for m i k)
@@ -98,13 +64,13 @@ module _ (m : ByteMemory values) (i : ℕ) (k : List ℕ) where
       (λ f. rw f)
 
   -- a good handle's slot is one of the table's, and is the handle's own
-  good_in : {v : ℕ} {h : Occupied} → value_in m i k ≡ held.Value v h → (i < length m.spans.marks) × (h.slot ≡ i)
+  good_in : {v : ℕ} {h : Occupied} → value_in m i k ≡ Ok (v, h) → (i < length m.spans.marks) × (h.slot ≡ i)
   unfolding value_in
   good_in {v} q = by_lt i (length m.spans.marks)
       (λ l e. (l, held_slot i (get_or m.words i 0) v (sight_at m.spans k i) (rw e at q)))
       (λ l e. clash (cc (rw e at q)))
 
-  good_value : {v : ℕ} {h : Occupied} → value_for m i k ≡ held.Value v h → (length m.words ≡ length m.spans.marks) × (i < length m.spans.marks) × (h.slot ≡ i)
+  good_value : {v : ℕ} {h : Occupied} → value_for m i k ≡ Ok (v, h) → (length m.words ≡ length m.spans.marks) × (i < length m.spans.marks) × (h.slot ≡ i)
   unfolding value_for
   good_value q = by_bool (sized_of maps m)
       (λ f. by_bool (eqb (asked_of k) 0)
@@ -113,28 +79,28 @@ module _ (m : ByteMemory values) (i : ℕ) (k : List ℕ) where
       (λ f. clash (cc (rw f at q)))
 
   -- where the plan answered r
-  module _ {r : Held} (p : r ≡ value_for m i k) where
-    get_ok : {v : ℕ} {h : Occupied} → r ≡ held.Value v h → occupied_get maps m i k ≡ ok v
+  module _ {r : Result (ℕ × Occupied) Refusal} (p : r ≡ value_for m i k) where
+    get_ok : {v : ℕ} {h : Occupied} → r ≡ Ok (v, h) → occupied_get maps m i k ≡ ok v
     get_ok q = rw (get_value, ← p, q)
 
-    get_no : {x : Refusal} → r ≡ held.Refused x → occupied_get maps m i k ≡ no (number_of x)
+    get_no : {x : Refusal} → r ≡ Err x → occupied_get maps m i k ≡ no (number_of x)
     get_no q = rw (get_value, ← p, q)
 
-    pub held_inside : {v : ℕ} {h : Occupied} → r ≡ held.Value v h → i < length m.words
+    pub held_inside : {v : ℕ} {h : Occupied} → r ≡ Ok (v, h) → i < length m.words
     held_inside q = let (a, b, c) = good_value (sym p ∙ q) in omega arith
 
     pub get_held : held_numbers r ≡ held_of maps m i k
     unfolding held_of held_numbers held_said
     get_held = go r refl
       where
-        go : (x : Held) → r ≡ x → held_numbers x ≡ held_said i (occupied_get maps m i k)
-        go (held.Value v h) q = let (a, b, c) = good_value (sym p ∙ q) in rw (get_ok q, c)
-        go (held.Refused x) q = rw (get_no q)
+        go : (x : Result (ℕ × Occupied) Refusal) → r ≡ x → held_numbers x ≡ held_said i (occupied_get maps m i k)
+        go (Ok (v, h)) q = let (a, b, c) = good_value (sym p ∙ q) in rw (get_ok q, c)
+        go (Err x) q = rw (get_no q)
 
-    pub set_done : {old : ℕ} {h : Occupied} (v : ℕ) → r ≡ held.Value old h → told (swapped_numbers (swapped.Was old (record { slot = i }))) (record { spans = m.spans; words = set m.words i v }) ≡ set_of maps m i k v
+    pub set_done : {old : ℕ} {h : Occupied} (v : ℕ) → r ≡ Ok (old, h) → told (swapped_numbers (Ok (old, (record { slot = i })))) (record { spans = m.spans; words = set m.words i v }) ≡ set_of maps m i k v
     unfolding set_of after_set acted swapped_numbers swapped_said
     set_done v q = rw (get_ok q)
 
-    pub set_refused : {x : Refusal} (v : ℕ) → r ≡ held.Refused x → told (swapped_numbers (swapped.Refused x)) m ≡ set_of maps m i k v
+    pub set_refused : {x : Refusal} (v : ℕ) → r ≡ Err x → told (swapped_numbers (Err x)) m ≡ set_of maps m i k v
     unfolding set_of after_set acted swapped_numbers swapped_said
     set_refused v q = rw (get_no q)

@@ -1,23 +1,22 @@
--- What the test of the values says of the calls that tell no value: they are the set's, or refused 1.
-use Prim.Native.Nat.{ℕ}
-use mathlib.Core.List.{List}
-use mathlib.Core.Path.{◌≡◌}
-use borrow.Author.Tests.{eq-eqb}
-use lib.ListN.{length}
+-- What the test of the values says of the calls that tell no value: they are the set's, or refused 1; and what get says of an absent key.
+use Rattle.std.proofs.Common.{ℕ, List, ◌≡◌, eq-eqb, length, Result, Ok, Err, ◌∙◌, ap, ◌⊎◌, inl, inr}
 use Rattle.answers.specs.declared.Refusal.TheVariants.{Sizes}
-use Rattle.answers.specs.declared.Counted.TheVariants as counted
-use Rattle.answers.specs.declared.Emptiness.TheVariants as emptiness
-use Rattle.answers.specs.declared.Reserved.TheVariants as reserved
-use Rattle.answers.specs.declared.Contained.TheVariants as contained
-use Rattle.answers.specs.Numbers.{counted_numbers, emptiness_numbers, reserved_numbers, contained_numbers}
+use Rattle.answers.specs.Numbers.{counted_numbers, emptiness_numbers, reserved_numbers, got_numbers, contained_numbers}
 use Rattle.kinds.specs.Columns.{values}
-use Rattle.kinds.specs.Calls.{capacity_of, len_of, is_empty_of, reserve_of, contains_of}
+use Rattle.kinds.specs.Calls.{capacity_of, len_of, is_empty_of, reserve_of, get_of, contains_of}
 use Rattle.kinds.proofs.Beside.{Beside}
 use Rattle.kinds.proofs.Sizing.{capacity_unsized, len_unsized, empty_unsized, reserve_unsized, contains_unsized}
 use Rattle.byte_slots.specs.Memory.{ByteMemory}
 use Rattle.byte_slots.specs.Kinds.{maps, sets, as_set}
 use Rattle.byte_slots.proofs.Beside.{beside_set, contains_set}
 use Rattle.byte_slots.proofs.MapSizes.{map_short}
+use Rattle.byte_slots.specs.Seeking.{probing_map}
+use Rattle.byte_slots.proofs.Calls.{get_says}
+use Rattle.answers.specs.declared.Refusal.{Refusal}
+use Rattle.answers.specs.declared.Lookup.TheVariants.{Absent}
+use Rattle.answers.specs.Said.{got_said}
+use Rattle.kinds.specs.declared.Probed.{Probed}
+use Rattle.kinds.specs.declared.Probed.TheVariants.{Free, Full}
 
 module _ (m : ByteMemory values) where
   -- as many values as marks: the keys' set tells the same
@@ -30,17 +29,23 @@ module _ (m : ByteMemory values) where
 
   -- other many: refusal 1
   module _ (h : length m.spans.marks ≡ length m.words → ⊥) where
-    pub capacity_short : counted_numbers (counted.Refused Sizes) ≡ capacity_of maps m
+    pub capacity_short : counted_numbers (Err Sizes) ≡ capacity_of maps m
     capacity_short = capacity_unsized maps m (map_short m h)
 
-    pub len_short : counted_numbers (counted.Refused Sizes) ≡ len_of maps m
+    pub len_short : counted_numbers (Err Sizes) ≡ len_of maps m
     len_short = len_unsized maps m (map_short m h)
 
-    pub empty_short : emptiness_numbers (emptiness.Refused Sizes) ≡ is_empty_of maps m
+    pub empty_short : emptiness_numbers (Err Sizes) ≡ is_empty_of maps m
     empty_short = empty_unsized maps m (map_short m h)
 
-    pub reserve_short : (keys bytes : ℕ) → reserved_numbers (reserved.Refused Sizes) ≡ reserve_of maps m keys bytes
+    pub reserve_short : (keys bytes : ℕ) → reserved_numbers (Err Sizes) ≡ reserve_of maps m keys bytes
     reserve_short keys bytes = reserve_unsized maps m (map_short m h) keys bytes
 
-    pub contains_short : (k : List ℕ) → contained_numbers (contained.Refused Sizes) ≡ contains_of maps m k
+    pub contains_short : (k : List ℕ) → contained_numbers (Err Sizes) ≡ contains_of maps m k
     contains_short k = contains_unsized maps m (map_short m h) k
+
+  -- get, where the path ended without the key, at a free slot or after all of them
+  pub get_missed : (k : List ℕ) {r : Result Probed Refusal} → r ≡ probing_map m k → {f : Probed} {e : ℕ} → r ≡ Ok f → ((a : ℕ) × (f ≡ Free a e)) ⊎ (f ≡ Full e) → got_numbers (Ok (Absent e)) ≡ get_of maps m k
+  unfolding got_numbers got_said
+  get_missed k p q (inl (a, z)) = get_says m k p (q ∙ ap Ok z)
+  get_missed k p q (inr z) = get_says m k p (q ∙ ap Ok z)

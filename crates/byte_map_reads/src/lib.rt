@@ -7,7 +7,7 @@ ghost use Rattle.kinds.specs.Calls.{capacity_of, len_of, is_empty_of, reserve_of
 ghost use Rattle.byte_slots.specs.Kinds.{maps};
 ghost use Rattle.byte_slots.specs.Maps.{before};
 
-use answers::{Contained, Counted, Emptiness, Got, Refusal, Reserved};
+use answers::{Contained, Lookup, Refusal};
 use byte_slots::map_probe;
 use kinds::Probed;
 
@@ -18,23 +18,29 @@ pub fn capacity(
     lengths: &[u8],
     values: &[u64],
     arena: &[u8],
-) -> Counted
+) -> Result<usize, Refusal>
     ensures { counted_numbers result ≡ capacity_of maps (before marks.now offsets.now lengths.now values.now arena.now) }
 {
-    if marks.len() == values.len() {
-        return byte_set_reads::capacity(marks, offsets, lengths, arena);
+    if marks.len() != values.len() {
+        return Err(Refusal::Sizes);
     }
-    Counted::Refused(Refusal::Sizes)
+    byte_set_reads::capacity(marks, offsets, lengths, arena)
 }
 
 // The number of keys.
-pub fn len(marks: &[u8], offsets: &[u16], lengths: &[u8], values: &[u64], arena: &[u8]) -> Counted
+pub fn len(
+    marks: &[u8],
+    offsets: &[u16],
+    lengths: &[u8],
+    values: &[u64],
+    arena: &[u8],
+) -> Result<usize, Refusal>
     ensures { counted_numbers result ≡ len_of maps (before marks.now offsets.now lengths.now values.now arena.now) }
 {
-    if marks.len() == values.len() {
-        return byte_set_reads::len(marks, offsets, lengths, arena);
+    if marks.len() != values.len() {
+        return Err(Refusal::Sizes);
     }
-    Counted::Refused(Refusal::Sizes)
+    byte_set_reads::len(marks, offsets, lengths, arena)
 }
 
 // Whether there is no key.
@@ -44,13 +50,13 @@ pub fn is_empty(
     lengths: &[u8],
     values: &[u64],
     arena: &[u8],
-) -> Emptiness
+) -> Result<bool, Refusal>
     ensures { emptiness_numbers result ≡ is_empty_of maps (before marks.now offsets.now lengths.now values.now arena.now) }
 {
-    if marks.len() == values.len() {
-        return byte_set_reads::is_empty(marks, offsets, lengths, arena);
+    if marks.len() != values.len() {
+        return Err(Refusal::Sizes);
     }
-    Emptiness::Refused(Refusal::Sizes)
+    byte_set_reads::is_empty(marks, offsets, lengths, arena)
 }
 
 // Whether so many slots are not live.
@@ -62,16 +68,17 @@ pub fn reserve(
     arena: &[u8],
     keys: u64,
     bytes: u64,
-) -> Reserved
+) -> Result<(), Refusal>
     ensures { reserved_numbers result ≡ reserve_of maps (before marks.now offsets.now lengths.now values.now arena.now) keys bytes }
 {
-    if marks.len() == values.len() {
-        return byte_set_reads::reserve(marks, offsets, lengths, arena, keys, bytes);
+    if marks.len() != values.len() {
+        return Err(Refusal::Sizes);
     }
-    Reserved::Refused(Refusal::Sizes)
+    byte_set_reads::reserve(marks, offsets, lengths, arena, keys, bytes)
 }
 
 // The value of a key, with its slot and the examined number.
+#[tactic(auto, using(crate::proofs::Laws::get_missed))]
 pub fn get(
     marks: &[u8],
     offsets: &[u16],
@@ -79,15 +86,12 @@ pub fn get(
     values: &[u64],
     arena: &[u8],
     key: &[u8],
-) -> Got
+) -> Result<Lookup<u64>, Refusal>
     ensures { got_numbers result ≡ get_of maps (before marks.now offsets.now lengths.now values.now arena.now) key.now }
 {
-    let seen = map_probe(marks, offsets, lengths, values, arena, key);
-    match seen {
-        Probed::Hit(slot, examined) => Got::Found(values[slot], slot, examined),
-        Probed::Free(_, examined) => Got::Absent(examined),
-        Probed::Full(examined) => Got::Absent(examined),
-        Probed::Refused(r) => Got::Refused(r),
+    match map_probe(marks, offsets, lengths, values, arena, key)? {
+        Probed::Hit(slot, examined) => Ok(Lookup::Found(values[slot], slot, examined)),
+        Probed::Free(_, examined) | Probed::Full(examined) => Ok(Lookup::Absent(examined)),
     }
 }
 
@@ -99,11 +103,11 @@ pub fn contains_key(
     values: &[u64],
     arena: &[u8],
     key: &[u8],
-) -> Contained
+) -> Result<Contained, Refusal>
     ensures { contained_numbers result ≡ contains_of maps (before marks.now offsets.now lengths.now values.now arena.now) key.now }
 {
-    if marks.len() == values.len() {
-        return byte_set_reads::contains(marks, offsets, lengths, arena, key);
+    if marks.len() != values.len() {
+        return Err(Refusal::Sizes);
     }
-    Contained::Refused(Refusal::Sizes)
+    byte_set_reads::contains(marks, offsets, lengths, arena, key)
 }

@@ -1,17 +1,11 @@
 -- What the union tells and leaves by its plan.
-use Prim.Native.Nat.{ℕ}
-use mathlib.Core.Bool.{true}
-use mathlib.Core.Path.{◌≡◌, refl, sym, ap}
-use borrow.Author.Tests.{eqb-true}
-use lib.Dec.{eqb}
-use lib.ListN.{length}
+use Rattle.std.proofs.Common.{ℕ, true, ◌≡◌, refl, sym, ap, eqb-true, eqb, length, Ok, Err, Result}
 use Rattle.model.specs.Slots.{pairs}
 use Rattle.model.specs.Calls.{Or, no, ok, give, union, acted, after_union}
 use Rattle.model.proofs.Cases.{both, clash}
 use Rattle.model.proofs.Accepted.{need_ok}
 use Rattle.model.proofs.Running.{union_roomy}
 use Rattle.answers.specs.declared.Refusal.{Refusal}
-use Rattle.answers.specs.declared.Outcome.TheVariants as outcome
 use Rattle.answers.specs.Refusals.{number_of}
 use Rattle.answers.specs.Numbers.{outcome_numbers}
 use Rattle.answers.specs.Said.{done_said}
@@ -25,8 +19,6 @@ use Rattle.byte_slots.specs.Kinds.{maps}
 use Rattle.byte_slots.proofs.Places.{byte_steady}
 use Rattle.byte_store.specs.Stores.{Ready, pairs_of}
 use Rattle.byte_store.proofs.Rooms.{firsts_bare, roomy_bare}
-use Rattle.byte_map_union.specs.declared.Planned.{Planned}
-use Rattle.byte_map_union.specs.declared.Planned.TheVariants.{Go, Refused}
 use Rattle.byte_map_union.specs.Needs.{planned, plan_of}
 
 -- an answer by the value given in its place
@@ -40,13 +32,13 @@ unfolding give
 give_no v n (no m) e = let z : n ≡ m = cc in ap no (sym z)
 give_no v n (ok a) e = clash cc
 
-module _ (l r : ByteMemory values) {a : Planned} (p : planned a ≡ plan_of l r) where
-  plan_go : {u : ℕ} → a ≡ Go u → (x : Unit {0}) × (union maps l r ≡ ok x) × (u ≡ used_of l.spans)
+module _ (l r : ByteMemory values) {a : Result ℕ Refusal} (p : planned a ≡ plan_of l r) where
+  plan_go : {u : ℕ} → a ≡ Ok u → (x : Unit {0}) × (union maps l r ≡ ok x) × (u ≡ used_of l.spans)
   unfolding planned plan_of
   plan_go {u} q = give_ok (used_of l.spans) u (union maps l r) (rw q at p)
 
   -- a plan to store: the left has room for the right's keys, and all sizes are right
-  pub go_ready : {u : ℕ} → a ≡ Go u → Ready l.spans u (pairs_of r.spans (length r.spans.marks)) × (fitting r.spans ≡ true) × (length r.words ≡ length r.spans.marks) × (length l.words ≡ length l.spans.marks)
+  pub go_ready : {u : ℕ} → a ≡ Ok u → Ready l.spans u (pairs_of r.spans (length r.spans.marks)) × (fitting r.spans ≡ true) × (length r.words ≡ length r.spans.marks) × (length l.words ≡ length l.spans.marks)
   unfolding union
   go_ready q =
       let n = length r.spans.marks in
@@ -63,11 +55,11 @@ module _ (l r : ByteMemory values) {a : Planned} (p : planned a ≡ plan_of l r)
       )
 
   -- and then all pairs go in
-  pub union_done : {u : ℕ} {m : ByteMemory values} → a ≡ Go u → m ≡ all_stored maps l r (length r.spans.marks) → told (outcome_numbers outcome.Done) m ≡ union_of maps l r
+  pub union_done : {u : ℕ} {m : ByteMemory values} → a ≡ Ok u → m ≡ all_stored maps l r (length r.spans.marks) → told (outcome_numbers (Ok tt)) m ≡ union_of maps l r
   unfolding union_of after_union all_stored acted done_said outcome_numbers
-  union_done q e = let (x, d, w) = plan_go q in rw d (ap (λ m. told (outcome_numbers outcome.Done) m) e)
+  union_done q e = let (x, d, w) = plan_go q in rw d (ap (λ m. told (outcome_numbers (Ok tt)) m) e)
 
   -- a refusal leaves all
-  pub union_refused : {x : Refusal} → a ≡ Refused x → told (outcome_numbers (outcome.Refused x)) l ≡ union_of maps l r
+  pub union_refused : {x : Refusal} → a ≡ Err x → told (outcome_numbers (Err x)) l ≡ union_of maps l r
   unfolding planned plan_of union_of after_union acted done_said outcome_numbers
   union_refused {x} q = rw (give_no (used_of l.spans) (number_of x) (union maps l r) (rw q at p))

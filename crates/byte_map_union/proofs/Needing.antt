@@ -1,16 +1,11 @@
 -- What the right needs of the left, slot by slot.
-use Prim.Native.Nat.{ℕ, ◌+◌, ◌*◌, ◌≤◌, ◌<◌}
-use mathlib.Core.Bool.{true}
-use mathlib.Core.List.{List}
-use mathlib.Core.Path.{◌≡◌, refl, sym, ◌∙◌}
-use native.Mathlib.Numerals.{add-one}
-use native.Mathlib.Omega.{arith}
-use lib.ListN.{length, get_or}
+use Rattle.std.proofs.Common.{ℕ, ◌+◌, ◌*◌, ◌≤◌, ◌<◌, true, List, ◌≡◌, refl, ◌∙◌, add-one, arith, length, get_or, Result, Ok}
 use Rattle.model.specs.Slots.{weigh, total}
 use Rattle.model.proofs.Cases.{by_bool}
 use Rattle.digest.specs.Home.{key_limit}
-use Rattle.kinds.specs.declared.Probed.{Probed}
-use Rattle.kinds.specs.Marks.{cell}
+use Rattle.kinds.specs.Marks.{cell, mark_read}
+use Rattle.kinds.specs.declared.Mark.{Mark}
+use Rattle.kinds.specs.declared.Mark.TheVariants.{Live}
 use Rattle.kinds.specs.Probing.{missed_of}
 use Rattle.kinds.proofs.Uniting.{weigh_idle}
 use Rattle.byte_slots.specs.Memory.{Spans, part, key_at, fitting}
@@ -18,8 +13,11 @@ use Rattle.byte_slots.specs.Marks.{mark_of}
 use Rattle.byte_slots.specs.Probing.{path_of, probing}
 use Rattle.byte_slots.proofs.Marks.{slot_cell}
 use Rattle.byte_slots.proofs.Sizes.{probing_short}
+use Rattle.byte_store.proofs.Marks.{mark_live, mark_idle}
 use Rattle.byte_map_union.specs.declared.Needed.{Needed}
 use Rattle.byte_map_union.specs.Needs.{needed_by, lack_of, slot_needs, table_needs}
+use Rattle.answers.specs.declared.Refusal.{Refusal}
+use Rattle.kinds.specs.declared.Probed.{Probed}
 
 abbrev nothing : Needed
 nothing = record { slots = 0; bytes = 0 }
@@ -28,18 +26,18 @@ nothing = record { slots = 0; bytes = 0 }
 abbrev pub NeededAt : Spans → Spans → ℕ → Needed → Type 0
 NeededAt l r i x = (x ≡ slot_needs l r i) × (x.slots ≤ 1) × (x.bytes ≤ key_limit)
 
-module _ (l r : Spans) (i : ℕ) {m : ℕ} (p : m ≡ mark_of r i) where
+module _ (l r : Spans) (i : ℕ) {m : Result Mark Refusal} (p : m ≡ mark_read (mark_of r i)) where
   -- a slot that is not live needs nothing
-  pub slot_needs_none : (m ≡ 1 → ⊥) → NeededAt l r i nothing
+  pub slot_needs_none : (m ≡ Ok Live → ⊥) → NeededAt l r i nothing
   unfolding slot_needs
-  slot_needs_none h = (rw (slot_cell r (λ j. tt {0}) i, weigh_idle (lack_of l (λ k. 1)) (mark_of r i) (key_at r i) (tt {0}) (λ e. h (p ∙ e)), weigh_idle (lack_of l length) (mark_of r i) (key_at r i) (tt {0}) (λ e. h (p ∙ e))), omega arith, omega arith)
+  slot_needs_none h = (rw (slot_cell r (λ j. tt {0}) i, weigh_idle (lack_of l (λ k. 1)) (mark_of r i) (key_at r i) (tt {0}) (mark_idle r i p h), weigh_idle (lack_of l length) (mark_of r i) (key_at r i) (tt {0}) (mark_idle r i p h)), omega arith, omega arith)
 
   -- a live one by the path of its key
-  pub slot_needs_key : {k : List ℕ} {s : Probed} {x : Needed} → m ≡ 1 → (k ≡ part r.arena (get_or r.offsets i 0) (get_or r.lengths i 0)) × (length k ≤ key_limit) → fitting l ≡ true → s ≡ probing l k → x ≡ needed_by s (length k) → NeededAt l r i x
+  pub slot_needs_key : {k : List ℕ} {s : Result Probed Refusal} {x : Needed} → m ≡ Ok Live → (k ≡ part r.arena (get_or r.offsets i 0) (get_or r.lengths i 0)) × (length k ≤ key_limit) → fitting l ≡ true → s ≡ probing l k → x ≡ needed_by s (length k) → NeededAt l r i x
   unfolding slot_needs lack_of weigh cell needed_by key_at
   slot_needs_key {k} {s} {x} one (q, b) f e d =
       let y : s ≡ path_of l k = e ∙ probing_short l k f b in
-      rw d (rw (slot_cell r (λ j. tt {0}) i, sym p ∙ one, ← q, ← y), by_bool (missed_of s) (λ t. rw t (omega arith)) (λ t. rw t (omega arith)), by_bool (missed_of s) (λ t. rw t (omega arith)) (λ t. rw t (omega arith)))
+      rw d (rw (slot_cell r (λ j. tt {0}) i, mark_live r i p one, ← q, ← y), by_bool (missed_of s) (λ t. rw t (omega arith)) (λ t. rw t (omega arith)), by_bool (missed_of s) (λ t. rw t (omega arith)) (λ t. rw t (omega arith)))
 
 -- the count's state: the needs of the first i slots
 pub record Needing (l r : Spans) (slots bytes i : ℕ) : Type 0 where
@@ -63,7 +61,3 @@ module _ {l r : Spans} {slots bytes i : ℕ} (w : Needing l r slots bytes i) whe
     slots_are = rw (add-one, e, w.slots_are);
     bytes_are = rw (add-one, e, w.bytes_are);
   }
-
-  pub need_end : length r.marks ≤ i → record { slots = slots; bytes = bytes } ≡ table_needs l r (length r.marks)
-  unfolding table_needs
-  need_end b = let e : length r.marks ≡ i = omega arith in rw (e, w.slots_are, w.bytes_are)

@@ -1,9 +1,6 @@
 -- The union's tests over the spans are those of its definition.
-use Prim.Native.Nat.{ℕ}
-use mathlib.Core.Bool.{Bool, true, false, cond}
-use mathlib.Core.List.{List}
-use mathlib.Core.Path.{◌≡◌, refl, sym, ◌∙◌, fun_ext}
-use lib.ListN.{length}
+use Rattle.std.proofs.Common.{ℕ, Bool, true, false, cond, List, ◌≡◌, refl, sym, ◌∙◌, length, Err}
+use mathlib.Core.Path.{fun_ext}
 use Rattle.model.specs.Slots.{total, count}
 use Rattle.model.specs.Store.{live_count}
 use Rattle.model.specs.Calls.{Or, need, pass, give, lacking, needs, union}
@@ -18,7 +15,6 @@ use Rattle.byte_slots.specs.Kinds.{maps}
 use Rattle.byte_slots.specs.Probing.{path_of}
 use Rattle.byte_slots.proofs.Bridge.{any_damage_is, used_is, lacking_is}
 use Rattle.byte_slots.proofs.Marks.{slots_cells}
-use Rattle.byte_map_union.specs.declared.Planned.TheVariants.{Refused}
 use Rattle.byte_map_union.specs.Needs.{lack_of, table_needs, room_of, planned, plan_of}
 
 -- sums over the slots are the same without the values
@@ -44,12 +40,12 @@ give_need v false n a = refl
 
 module _ (l r : ByteMemory values) {b : Bool} (p : b ≡ sized_of maps l) where
   -- sizes
-  pub left_unfit : b ≡ false → planned (Refused Sizes) ≡ plan_of l r
+  pub left_unfit : b ≡ false → planned (Err Sizes) ≡ plan_of l r
   unfolding planned plan_of union need pass give sized_of
   left_unfit q = rw (sym p ∙ q)
 
   module _ (q : b ≡ true) {c : Bool} (s : c ≡ sized_of maps r) where
-    pub right_unfit : c ≡ false → planned (Refused Sizes) ≡ plan_of l r
+    pub right_unfit : c ≡ false → planned (Err Sizes) ≡ plan_of l r
     unfolding planned plan_of union need pass give sized_of
     right_unfit t = rw (sym p ∙ q, sym s ∙ t)
 

@@ -3,18 +3,18 @@ use Rattle.std.specs.Prelude.{ℕ, ◌-◌, cond, not, List, leb, length}
 use Rattle.model.specs.Slots.{weigh, total, count}
 use Rattle.model.specs.Calls.{Or, no, ok, need, give, union}
 use Rattle.answers.specs.Refusals.{number_of}
-use Rattle.kinds.specs.declared.Probed.{Probed}
 use Rattle.kinds.specs.Columns.{values}
 use Rattle.kinds.specs.Probing.{missed_of}
 use Rattle.byte_slots.specs.Memory.{Spans, ByteMemory, bare, used_of, full_damage}
 use Rattle.byte_slots.specs.Kinds.{maps}
 use Rattle.byte_slots.specs.Probing.{path_of}
 use Rattle.byte_map_union.specs.declared.Needed.{Needed}
-use Rattle.byte_map_union.specs.declared.Planned.{Planned}
-use Rattle.byte_map_union.specs.declared.Planned.TheVariants.{Go, Refused}
+use Rattle.std.specs.Prelude.{Result, Ok, Err}
+use Rattle.answers.specs.declared.Refusal.{Refusal}
+use Rattle.kinds.specs.declared.Probed.{Probed}
 
 -- What a key of length n needs, by how its path ended: nothing where it was found.
-unfoldable pub needed_by : Probed → ℕ → Needed
+unfoldable pub needed_by : Result Probed Refusal → ℕ → Needed
 needed_by p n = record { slots = cond (missed_of p) 1 0; bytes = cond (missed_of p) n 0 }
 
 -- What a key weighs that the left lacks, 0 where it has it.
@@ -38,9 +38,9 @@ module _ (l r : Spans) where
       (need (leb (table_needs (length r.marks)).bytes (length l.arena - used_of l)) 8 (ok (used_of l)))))
 
 -- What a plan says: the left's `used`, or a refusal's number.
-unfoldable pub planned : Planned → Or ℕ
-planned (Go u) = ok u
-planned (Refused x) = no (number_of x)
+unfoldable pub planned : Result ℕ Refusal → Or ℕ
+planned (Ok u) = ok u
+planned (Err x) = no (number_of x)
 
 -- The union's tests: its answer, with the left's `used` where it is accepted.
 unfoldable pub plan_of : ByteMemory values → ByteMemory values → Or ℕ

@@ -11,40 +11,26 @@ ghost use Rattle.byte_slots.specs.Kinds.{maps};
 ghost use Rattle.byte_slots.specs.Maps.{map_now, before, after};
 ghost use Rattle.byte_map_union.specs.Needs.{needed_by, slot_needs, table_needs, planned, room_of, plan_of};
 
-use answers::{Outcome, Refusal, Reserved};
-use byte_slots::{Surveyed, key_at, live_marks, map_fits, mark_at, probe, survey};
+use answers::Refusal;
+use byte_slots::{key_at, live_marks, map_fits, mark_at, probe, survey};
 use byte_store::map_store_all;
-use kinds::{Probed, reserved_by};
+use kinds::{Mark, Probed, reserved_by};
 
 // What the left has to have room for: so many slots, and so many bytes.
-#[derive(Drop)]
+#[derive(Clone, Copy, Debug, PartialEq, Eq)]
 pub struct Needed {
     pub slots: usize,
     pub bytes: usize,
 }
 
-// The union's plan: to store, with the left's `used`, or a refusal.
-#[derive(Drop)]
-pub enum Planned {
-    Go(usize),
-    Refused(Refusal),
-}
-
 // What a key of this length needs, by how its path in the left ended.
-fn needed_by(found: Probed, len: usize) -> Needed
+#[tactic(auto, unfolding(crate::specs::Needs::needed_by))]
+fn needed_by(found: Result<Probed, Refusal>, len: usize) -> Needed
     ensures { result ≡ needed_by found len }
 {
     match found {
-        Probed::Hit(_, _) => Needed { slots: 0, bytes: 0 },
-        Probed::Free(_, _) => Needed {
-            slots: 1,
-            bytes: len,
-        },
-        Probed::Full(_) => Needed {
-            slots: 1,
-            bytes: len,
-        },
-        Probed::Refused(_) => Needed {
+        Ok(Probed::Hit(..)) => Needed { slots: 0, bytes: 0 },
+        Ok(Probed::Free(..) | Probed::Full(_)) | Err(_) => Needed {
             slots: 1,
             bytes: len,
         },
@@ -66,11 +52,16 @@ fn slot_needs(
     requires { (fitting (spans_now marks.now offsets.now lengths.now arena.now) ≡ true) × (fitting (spans_now right_marks.now right_offsets.now right_lengths.now right_arena.now) ≡ true) × (i < length right_marks.now) }
     ensures { (result ≡ slot_needs (spans_before marks.now offsets.now lengths.now arena.now) (spans_before right_marks.now right_offsets.now right_lengths.now right_arena.now) i) × (result.slots ≤ 1) × (result.bytes ≤ key_limit) }
 {
-    if mark_at(right_marks, right_offsets, right_lengths, right_arena, i) == 1 {
-        let key = key_at(right_offsets, right_lengths, right_arena, i);
-        return needed_by(probe(marks, offsets, lengths, arena, key), key.len());
+    let Ok(mark) = mark_at(right_marks, right_offsets, right_lengths, right_arena, i) else {
+        return Needed { slots: 0, bytes: 0 };
+    };
+    match mark {
+        Mark::Live => {
+            let key = key_at(right_offsets, right_lengths, right_arena, i);
+            needed_by(probe(marks, offsets, lengths, arena, key), key.len())
+        }
+        Mark::Never | Mark::Freed => Needed { slots: 0, bytes: 0 },
     }
-    Needed { slots: 0, bytes: 0 }
 }
 
 // What the right needs of the left, over all its slots.
@@ -89,8 +80,7 @@ fn table_needs(
 {
     let mut slots = 0;
     let mut bytes = 0;
-    let mut i = 0;
-    while i < right_marks.len() {
+    for i in 0..right_marks.len() {
         let more = slot_needs(
             marks,
             offsets,
@@ -104,7 +94,6 @@ fn table_needs(
         );
         slots += more.slots;
         bytes += more.bytes;
-        i += 1;
     }
     Needed { slots, bytes }
 }
@@ -119,18 +108,12 @@ fn room(
     right_offsets: &[u16],
     right_lengths: &[u8],
     right_arena: &[u8],
-) -> Planned
+) -> Result<usize, Refusal>
     requires { (fitting (spans_now marks.now offsets.now lengths.now arena.now) ≡ true) × (fitting (spans_now right_marks.now right_offsets.now right_lengths.now right_arena.now) ≡ true) }
     ensures { planned result ≡ room_of (spans_before marks.now offsets.now lengths.now arena.now) (spans_before right_marks.now right_offsets.now right_lengths.now right_arena.now) }
 {
-    let found = survey(marks, offsets, lengths, arena);
-    let Surveyed::Used(used) = found else {
-        return Planned::Refused(Refusal::Damaged);
-    };
-    let other = survey(right_marks, right_offsets, right_lengths, right_arena);
-    let Surveyed::Used(_) = other else {
-        return Planned::Refused(Refusal::Damaged);
-    };
+    let used = survey(marks, offsets, lengths, arena)?;
+    survey(right_marks, right_offsets, right_lengths, right_arena)?;
     let needed = table_needs(
         marks,
         offsets,
@@ -143,14 +126,12 @@ fn room(
     );
     let slots = marks.len() - live_marks(marks);
     let left = arena.len() - used;
-    let reserved = reserved_by(slots, left, needed.slots as u64, needed.bytes as u64);
-    match reserved {
-        Reserved::Room => Planned::Go(used),
-        Reserved::Refused(why) => Planned::Refused(why),
-    }
+    reserved_by(slots, left, needed.slots as u64, needed.bytes as u64)?;
+    Ok(used)
 }
 
 // The union's tests.
+#[tactic(auto, using(crate::proofs::Plans::left_unfit, crate::proofs::Plans::right_unfit, crate::proofs::Plans::room_plan))]
 fn plan(
     marks: &[u8],
     offsets: &[u16],
@@ -162,36 +143,35 @@ fn plan(
     right_lengths: &[u8],
     right_values: &[u64],
     right_arena: &[u8],
-) -> Planned
+) -> Result<usize, Refusal>
     ensures { planned result ≡ plan_of (before marks.now offsets.now lengths.now values.now arena.now) (before right_marks.now right_offsets.now right_lengths.now right_values.now right_arena.now) }
 {
-    if map_fits(marks, offsets, lengths, values, arena) {
-        if map_fits(
+    if !map_fits(marks, offsets, lengths, values, arena)
+        || !map_fits(
             right_marks,
             right_offsets,
             right_lengths,
             right_values,
             right_arena,
-        ) {
-            return room(
-                marks,
-                offsets,
-                lengths,
-                arena,
-                right_marks,
-                right_offsets,
-                right_lengths,
-                right_arena,
-            );
-        }
-        return Planned::Refused(Refusal::Sizes);
+        )
+    {
+        return Err(Refusal::Sizes);
     }
-    Planned::Refused(Refusal::Sizes)
+    room(
+        marks,
+        offsets,
+        lengths,
+        arena,
+        right_marks,
+        right_offsets,
+        right_lengths,
+        right_arena,
+    )
 }
 
 // Does what the plan says: all of the right's pairs go into the left, or none.
 fn carry_out(
-    way: Planned,
+    way: Result<usize, Refusal>,
     marks: &mut [u8],
     offsets: &mut [u16],
     lengths: &mut [u8],
@@ -202,29 +182,25 @@ fn carry_out(
     right_lengths: &[u8],
     right_values: &[u64],
     right_arena: &[u8],
-) -> Outcome
+) -> Result<(), Refusal>
     requires { planned way ≡ plan_of (map_now marks.old offsets.old lengths.old values.old arena.old) (map_now right_marks.now right_offsets.now right_lengths.now right_values.now right_arena.now) }
     ensures { told (outcome_numbers result) (after marks.new offsets.new lengths.new values.new arena.new) ≡ union_of maps (before marks.old offsets.old lengths.old values.old arena.old) (before right_marks.now right_offsets.now right_lengths.now right_values.now right_arena.now) }
 {
-    match way {
-        Planned::Go(used) => {
-            map_store_all(
-                marks,
-                offsets,
-                lengths,
-                values,
-                arena,
-                right_marks,
-                right_offsets,
-                right_lengths,
-                right_values,
-                right_arena,
-                used,
-            );
-            Outcome::Done
-        }
-        Planned::Refused(r) => Outcome::Refused(r),
-    }
+    let used = way?;
+    map_store_all(
+        marks,
+        offsets,
+        lengths,
+        values,
+        arena,
+        right_marks,
+        right_offsets,
+        right_lengths,
+        right_values,
+        right_arena,
+        used,
+    );
+    Ok(())
 }
 
 // Puts the right's pairs into the left, where its slots and bytes suffice for all; the right stays as it was.
@@ -239,7 +215,7 @@ pub fn union_prefer_right(
     right_lengths: &[u8],
     right_values: &[u64],
     right_arena: &[u8],
-) -> Outcome
+) -> Result<(), Refusal>
     ensures { told (outcome_numbers result) (after marks.new offsets.new lengths.new values.new arena.new) ≡ union_of maps (before marks.old offsets.old lengths.old values.old arena.old) (before right_marks.now right_offsets.now right_lengths.now right_values.now right_arena.now) }
 {
     carry_out(

@@ -1,6 +1,5 @@
 -- The contract settles its answer and the lent arrays: two results that it allows are equal.
-use Prim.Native.Nat.{ℕ}
-use mathlib.Core.List.{List}
+use Rattle.std.proofs.Common.{ℕ, List}
 use Rattle.kinds.specs.Calls.{vacant_insert_of}
 use Rattle.kinds.specs.Columns.{values}
 use Rattle.kinds.specs.Told.{SettledWith}

@@ -1,17 +1,11 @@
 -- Vacant handles: what insert's plan says of them, and what their insert tells and leaves by it.
-use Prim.Native.Nat.{ℕ, ◌<◌}
-use mathlib.Core.Bool.{Bool, true, false}
-use mathlib.Core.List.{List}
-use mathlib.Core.Path.{◌≡◌, refl, sym, ◌∙◌}
-use borrow.Author.Tests.{eq-eqb, ne_eqb}
-use lib.Dec.{eqb, ltb}
-use lib.ListN.{length, get_or, set}
+use Rattle.std.proofs.Common.{ℕ, ◌<◌, Bool, true, false, List, ◌≡◌, refl, sym, ◌∙◌, eqb, ltb, length, get_or, set, Ok, Err, Result}
 use Rattle.model.specs.Path.{Find, hit, miss, damage, at, find}
 use Rattle.model.specs.Calls.{Or, no, ok, need, give, acted, good_for, vacancy, vacant_insert, after_fill}
 use Rattle.model.proofs.Cases.{by_bool, by_eq, clash}
 use Rattle.digest.specs.Home.{home_of, key_fits}
 use Rattle.answers.specs.declared.Refusal.{Refusal}
-use Rattle.answers.specs.declared.Refusal.TheVariants.{Sizes, LongKey, NoBudget, WalkBeyond, Damaged, BadHandle, NoSlot, NoBytes}
+use Rattle.answers.specs.declared.Refusal.TheVariants.{Sizes, LongKey}
 use Rattle.answers.specs.Refusals.{number_of}
 use Rattle.answers.specs.Said.{in_slot_said}
 use Rattle.kinds.specs.Calls.{vacant_insert_of}
@@ -20,9 +14,6 @@ use Rattle.kinds.specs.Marks.{keys_only}
 use Rattle.kinds.specs.Probing.{along}
 use Rattle.kinds.specs.Told.{told}
 use Rattle.kinds.proofs.Bridge.{spot_in}
-use Rattle.byte_slots.specs.declared.Kept.TheVariants as kept
-use Rattle.byte_slots.specs.declared.InsertPlan.{InsertPlan}
-use Rattle.byte_slots.specs.declared.InsertPlan.TheVariants as insert_plan
 use Rattle.byte_slots.specs.Keys.{byte_keys}
 use Rattle.byte_slots.specs.Kinds.{maps}
 use Rattle.byte_slots.specs.Marks.{mark_of}
@@ -33,61 +24,31 @@ use Rattle.byte_slots.proofs.Bridge.{spot_is, short_refused, pass_kept}
 use Rattle.byte_arena.specs.Needs.{Fillable}
 use Rattle.byte_slots.proofs.Seeking.{by_long}
 use Rattle.byte_arena.proofs.Plans.{map_plan_insert_free}
-use Rattle.byte_map_vacant.specs.declared.Vacancy.{Vacancy}
-use Rattle.byte_map_vacant.specs.declared.Vacancy.TheVariants.{Good, Refused}
-use Rattle.byte_map_vacant.specs.declared.InSlot.TheVariants as in_slot
 use Rattle.byte_map_vacant.specs.Numbers.{in_slot_numbers}
 use Rattle.byte_map_vacant.specs.Planning.{handle_refusal, vacancy_by}
+use Rattle.byte_slots.specs.declared.InsertPlan.{InsertPlan}
+use Rattle.byte_slots.specs.declared.InsertPlan.TheVariants.{Hit, Free}
 
 -- What a vacant handle's plan says in the theory's words.
-abbrev worth_of : Vacancy → Or (Unit {0})
-worth_of (Good u) = ok tt
-worth_of (Refused r) = no (number_of r)
+abbrev worth_of : Result ℕ Refusal → Or (Unit {0})
+worth_of (Ok u) = ok tt
+worth_of (Err r) = no (number_of r)
 
--- the plan, as the code makes it
-pub vacancy_here : (i : ℕ) {p : InsertPlan} {x e u : ℕ} → p ≡ insert_plan.Free x e u → i ≡ x → Good u ≡ vacancy_by i p
-unfolding vacancy_by
-vacancy_here i {p} {x} q l = rw (q, eq-eqb i x l)
-
-pub vacancy_elsewhere : (i : ℕ) {p : InsertPlan} {x e u : ℕ} → p ≡ insert_plan.Free x e u → (i ≡ x → ⊥) → Refused BadHandle ≡ vacancy_by i p
-unfolding vacancy_by
-vacancy_elsewhere i {p} {x} q l = rw (q, ne_eqb i x l)
-
-pub vacancy_hit : (i : ℕ) {p : InsertPlan} {x e : ℕ} → p ≡ insert_plan.Hit x e → Refused BadHandle ≡ vacancy_by i p
-unfolding vacancy_by
-vacancy_hit i q = rw q
-
-pub vacancy_refused : (i : ℕ) {p : InsertPlan} {r x : Refusal} → p ≡ insert_plan.Refused r → x ≡ handle_refusal r → Refused x ≡ vacancy_by i p
-unfolding vacancy_by
-vacancy_refused i q e = rw (q, e)
-
--- a refusal that is not 7 or 8 stays
-pub refusal_stays : (r : Refusal) → (r ≡ NoSlot → ⊥) → (r ≡ NoBytes → ⊥) → r ≡ handle_refusal r
-unfolding handle_refusal
-refusal_stays Sizes a b = refl
-refusal_stays LongKey a b = refl
-refusal_stays NoBudget a b = refl
-refusal_stays WalkBeyond a b = refl
-refusal_stays Damaged a b = refl
-refusal_stays BadHandle a b = refl
-refusal_stays NoSlot a b = absurd (a refl)
-refusal_stays NoBytes a b = absurd (b refl)
-
--- and so does a key's own
-kept_stays : (k : List ℕ) (r : Refusal) → keeping k ≡ kept.Refused r → handle_refusal r ≡ r
+-- a key's own refusal stays
+kept_stays : (k : List ℕ) (r : Refusal) → keeping k ≡ Err r → handle_refusal r ≡ r
 unfolding handle_refusal
 kept_stays k r e = by_bool (key_fits (length k))
     (λ f. clash (cc (rw f at e)))
     (λ f. let z : LongKey ≡ r = cc (rw f at e) in rw (← z))
 
 -- a good handle's slot is the one that the plan names
-vacancy_free : (i : ℕ) {u : ℕ} (p : InsertPlan) → vacancy_by i p ≡ Good u → (e : ℕ) × (p ≡ insert_plan.Free i e u)
+vacancy_free : (i : ℕ) {u : ℕ} (p : Result InsertPlan Refusal) → vacancy_by i p ≡ Ok u → (e : ℕ) × (p ≡ Ok (Free i e u))
 unfolding vacancy_by
-vacancy_free i (insert_plan.Hit x e) q = clash cc
-vacancy_free i {u} (insert_plan.Free x e v) q = by_eq i x
+vacancy_free i (Ok (Hit x e)) q = clash cc
+vacancy_free i {u} (Ok (Free x e v)) q = by_eq i x
     (λ l t. let z : v ≡ u = cc (rw t at q) in (e, rw (z, l)))
     (λ l t. clash (cc (rw t at q)))
-vacancy_free i (insert_plan.Refused r) q = clash cc
+vacancy_free i (Err r) q = clash cc
 
 -- a vacant handle by the path
 good_along : (i S h u : ℕ) (room : Bool) (read : ℕ → ℕ) {W : Type 0} (x : Find W) → good_for maps i (spot_in room read (along S h x)) ≡ worth_of (vacancy_by i (insert_plan_by u room (along S h x)))
@@ -121,26 +82,26 @@ module _ (m : ByteMemory values) (i : ℕ) (k : List ℕ) where
   -- a vacant handle by insert's plan
   vacancy_planned : vacancy maps m i k ≡ worth_of (vacancy_by i (planning_map_insert m k))
   unfolding planning_map_insert vacancy_by handle_refusal
-  vacancy_planned = by_long m (planning_insert m.spans k) (insert_plan.Refused Sizes) (λ p. worth_of (vacancy_by i p)) (vacancy maps m i k) vacancy_planning vacancy_short
+  vacancy_planned = by_long m (planning_insert m.spans k) (Err Sizes) (λ p. worth_of (vacancy_by i p)) (vacancy maps m i k) vacancy_planning vacancy_short
 
   -- where insert's plan is p, and the handle's r
-  module _ {p : InsertPlan} {r : Vacancy} (w : p ≡ planning_map_insert m k) (y : r ≡ vacancy_by i p) where
-    worth : {x : Vacancy} → r ≡ x → vacancy maps m i k ≡ worth_of x
+  module _ {p : Result InsertPlan Refusal} {r : Result ℕ Refusal} (w : p ≡ planning_map_insert m k) (y : r ≡ vacancy_by i p) where
+    worth : {x : Result ℕ Refusal} → r ≡ x → vacancy maps m i k ≡ worth_of x
     worth q = rw (← q, y, w) vacancy_planned
 
-    stands : {u : ℕ} → r ≡ Good u → Fillable m.spans i u k × (i < length m.words)
+    stands : {u : ℕ} → r ≡ Ok u → Fillable m.spans i u k × (i < length m.words)
     stands q = let (e, f) = vacancy_free i p (sym y ∙ q) in map_plan_insert_free m k w f
 
-    pub vacancy_fillable : {u : ℕ} → r ≡ Good u → Fillable m.spans i u k
+    pub vacancy_fillable : {u : ℕ} → r ≡ Ok u → Fillable m.spans i u k
     vacancy_fillable q = (stands q).0
 
-    pub vacancy_inside : {u : ℕ} → r ≡ Good u → i < length m.words
+    pub vacancy_inside : {u : ℕ} → r ≡ Ok u → i < length m.words
     vacancy_inside q = (stands q).1
 
-    pub insert_done : (v : ℕ) {u : ℕ} {t : Spans} → r ≡ Good u → t ≡ filled m.spans i k → told (in_slot_numbers (in_slot.Now (record { slot = i }) v)) (record { spans = t; words = set m.words i v }) ≡ vacant_insert_of maps m i k v
+    pub insert_done : (v : ℕ) {u : ℕ} {t : Spans} → r ≡ Ok u → t ≡ filled m.spans i k → told (in_slot_numbers (Ok ((record { slot = i }), v))) (record { spans = t; words = set m.words i v }) ≡ vacant_insert_of maps m i k v
     unfolding vacant_insert_of vacant_insert after_fill give acted in_slot_numbers in_slot_said
     insert_done v q e = rw (worth q, ← e)
 
-    pub insert_refused : (v : ℕ) {x : Refusal} → r ≡ Refused x → told (in_slot_numbers (in_slot.Refused x)) m ≡ vacant_insert_of maps m i k v
+    pub insert_refused : (v : ℕ) {x : Refusal} → r ≡ Err x → told (in_slot_numbers (Err x)) m ≡ vacant_insert_of maps m i k v
     unfolding vacant_insert_of vacant_insert after_fill give acted in_slot_numbers in_slot_said
     insert_refused v q = rw (worth q)

@@ -9,59 +9,47 @@ ghost use Rattle.byte_slots.specs.Maps.{before, after};
 ghost use Rattle.byte_map_vacant.specs.Numbers.{in_slot_numbers};
 ghost use Rattle.byte_map_vacant.specs.Planning.{handle_refusal, vacancy_by};
 
-use answers::{NOW, Numbers, Refusal, case_numbers, refusal_numbers};
+use answers::{Case, Numbers, Refusal, case_numbers};
 use byte_map_occupied::Occupied;
 use byte_slots::{InsertPlan, map_plan_insert};
 
 // A handle of the slot that a key would take.
-#[derive(Clone, Copy)]
+#[derive(Clone, Copy, Debug, PartialEq, Eq)]
 pub struct Vacant {
     pub slot: usize,
 }
 
-// The answer of the calls that leave the key in a slot: its handle, and the value now in the slot.
-#[derive(Drop)]
-pub enum InSlot {
-    Now(Occupied, u64),
-    Refused(Refusal),
-}
-
-// The plan of a vacant handle's insert: `used`, or a refusal.
-#[derive(Drop)]
-pub enum Vacancy {
-    Good(usize),
-    Refused(Refusal),
-}
-
 // A vacant handle's refusal by that of insert's plan: where insert finds no room, the handle is not good.
+#[tactic(auto, unfolding(crate::specs::Planning::handle_refusal))]
 fn handle_refusal(refusal: Refusal) -> Refusal
     ensures { result ≡ handle_refusal refusal }
 {
     match refusal {
-        Refusal::NoSlot => Refusal::BadHandle,
-        Refusal::NoBytes => Refusal::BadHandle,
-        _ => refusal,
+        Refusal::NoSlot | Refusal::NoBytes => Refusal::BadHandle,
+        Refusal::Sizes
+        | Refusal::LongKey
+        | Refusal::NoBudget
+        | Refusal::WalkBeyond
+        | Refusal::Damaged
+        | Refusal::BadHandle => refusal,
     }
 }
 
 // What a vacant handle of this slot makes of insert's plan: it is good where insert would use that very slot.
-fn vacancy_by(plan: InsertPlan, slot: usize) -> Vacancy
+#[tactic(auto, unfolding(crate::specs::Planning::vacancy_by))]
+fn vacancy_by(plan: Result<InsertPlan, Refusal>, slot: usize) -> Result<usize, Refusal>
     ensures { result ≡ vacancy_by slot plan }
 {
     match plan {
-        InsertPlan::Free(free, _, used) => {
-            if slot == free {
-                return Vacancy::Good(used);
-            }
-            Vacancy::Refused(Refusal::BadHandle)
-        }
-        InsertPlan::Hit(_, _) => Vacancy::Refused(Refusal::BadHandle),
-        InsertPlan::Refused(refusal) => Vacancy::Refused(handle_refusal(refusal)),
+        Ok(InsertPlan::Free(free, _, used)) if slot == free => Ok(used),
+        Ok(InsertPlan::Free(..) | InsertPlan::Hit(..)) => Err(Refusal::BadHandle),
+        Err(refusal) => Err(handle_refusal(refusal)),
     }
 }
 
 impl Vacant {
     // Puts the key and a value into the slot, where insert would use that very slot.
+    #[tactic(auto, using(crate::proofs::Vacancies::insert_refused))]
     pub fn insert(
         self,
         marks: &mut [u8],
@@ -71,29 +59,25 @@ impl Vacant {
         arena: &mut [u8],
         key: &[u8],
         value: u64,
-    ) -> InSlot
+    ) -> Result<(Occupied, u64), Refusal>
         ensures { told (in_slot_numbers result) (after marks.new offsets.new lengths.new values.new arena.new) ≡ vacant_insert_of maps (before marks.old offsets.old lengths.old values.old arena.old) self.slot key.now value }
     {
-        let slot = self.slot;
+        let Vacant { slot } = self;
         let plan = map_plan_insert(marks, offsets, lengths, values, arena, key);
-        let worth = vacancy_by(plan, slot);
-        match worth {
-            Vacancy::Good(used) => {
-                values[slot] = value;
-                byte_arena::fill(marks, offsets, lengths, arena, slot, used, key);
-                InSlot::Now(Occupied { slot }, value)
-            }
-            Vacancy::Refused(r) => InSlot::Refused(r),
-        }
+        let used = vacancy_by(plan, slot)?;
+        values[slot] = value;
+        byte_arena::fill(marks, offsets, lengths, arena, slot, used, key);
+        Ok((Occupied { slot }, value))
     }
 }
 
 // The numbers of the calls that leave the key in a slot.
-pub fn in_slot_numbers(a: InSlot) -> Numbers
+#[tactic(auto, unfolding(crate::specs::Numbers::in_slot_numbers))]
+pub fn in_slot_numbers(a: Result<(Occupied, u64), Refusal>) -> Numbers
     ensures { result ≡ in_slot_numbers a }
 {
     match a {
-        InSlot::Now(handle, value) => case_numbers(NOW, 0, value, handle.slot, 0),
-        InSlot::Refused(r) => refusal_numbers(r),
+        Ok((handle, value)) => case_numbers(Case::Now, 0, value, handle.slot, 0),
+        Err(r) => Numbers::from(r),
     }
 }

@@ -1,6 +1,5 @@
 -- Each contract settles its answer and the lent arrays: two results that it allows are equal.
-use Prim.Native.Nat.{ℕ}
-use mathlib.Core.List.{List}
+use Rattle.std.proofs.Common.{ℕ, List}
 use Rattle.answers.specs.Numbers.{outcome_numbers, joined_numbers, dropped_numbers}
 use Rattle.answers.proofs.Equal.{outcome_numbers_injective, joined_numbers_injective, dropped_numbers_injective}
 use Rattle.kinds.specs.Calls.{make_of, copy_of, dropped_of}

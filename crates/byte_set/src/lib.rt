@@ -8,25 +8,35 @@ ghost use Rattle.kinds.specs.Told.{told};
 ghost use Rattle.byte_slots.specs.Kinds.{sets, set_insert_of};
 ghost use Rattle.byte_slots.specs.Sets.{before, after};
 
-use answers::{Dropped, Joined, Outcome, Refusal};
-use arrays::{copy_bytes, copy_shorts};
+use answers::{Lookup, Refusal, Stored};
 use byte_arena::{fill, free, wipe};
 use byte_slots::{InsertPlan, RemovePlan, fits, plan_insert, plan_remove};
 
 // Makes an empty set of the lent arrays.
-pub fn make(marks: &mut [u8], offsets: &mut [u16], lengths: &mut [u8], arena: &mut [u8]) -> Outcome
+#[tactic(auto, unfolding(kinds::specs::Calls::make_of), using(crate::proofs::Laws::make_done, kinds::proofs::Sizing::make_unsized, byte_slots::proofs::Sets::unfit))]
+pub fn make(
+    marks: &mut [u8],
+    offsets: &mut [u16],
+    lengths: &mut [u8],
+    arena: &mut [u8],
+) -> Result<(), Refusal>
     ensures { told (outcome_numbers result) (after marks.new offsets.new lengths.new arena.new) ≡ make_of sets (before marks.old offsets.old lengths.old arena.old) }
 {
     if fits(marks, offsets, lengths, arena) {
         wipe(marks, offsets, lengths, arena);
-        Outcome::Done
+        Ok(())
     } else {
-        Outcome::Refused(Refusal::Sizes)
+        Err(Refusal::Sizes)
     }
 }
 
 // Empties a set: every slot becomes never used, every arena byte 0.
-pub fn clear(marks: &mut [u8], offsets: &mut [u16], lengths: &mut [u8], arena: &mut [u8]) -> Outcome
+pub fn clear(
+    marks: &mut [u8],
+    offsets: &mut [u16],
+    lengths: &mut [u8],
+    arena: &mut [u8],
+) -> Result<(), Refusal>
     ensures { told (outcome_numbers result) (after marks.new offsets.new lengths.new arena.new) ≡ make_of sets (before marks.old offsets.old lengths.old arena.old) }
 {
     make(marks, offsets, lengths, arena)
@@ -39,17 +49,16 @@ pub fn insert(
     lengths: &mut [u8],
     arena: &mut [u8],
     key: &[u8],
-) -> Joined
+) -> Result<Stored<()>, Refusal>
     ensures { told (joined_numbers result) (after marks.new offsets.new lengths.new arena.new) ≡ set_insert_of (before marks.old offsets.old lengths.old arena.old) key.now }
 {
-    let plan = plan_insert(marks, offsets, lengths, arena, key);
+    let plan = plan_insert(marks, offsets, lengths, arena, key)?;
     match plan {
-        InsertPlan::Hit(slot, examined) => Joined::Already(slot, examined),
+        InsertPlan::Hit(slot, examined) => Ok(Stored::Replaced((), slot, examined)),
         InsertPlan::Free(slot, examined, used) => {
             fill(marks, offsets, lengths, arena, slot, used, key);
-            Joined::Fresh(slot, used, examined)
+            Ok(Stored::Fresh(slot, used, examined))
         }
-        InsertPlan::Refused(r) => Joined::Refused(r),
     }
 }
 
@@ -60,21 +69,21 @@ pub fn remove(
     lengths: &mut [u8],
     arena: &mut [u8],
     key: &[u8],
-) -> Dropped
+) -> Result<Lookup<()>, Refusal>
     ensures { told (dropped_numbers result) (after marks.new offsets.new lengths.new arena.new) ≡ dropped_of sets (before marks.old offsets.old lengths.old arena.old) key.now }
 {
-    let plan = plan_remove(marks, offsets, lengths, arena, key);
+    let plan = plan_remove(marks, offsets, lengths, arena, key)?;
     match plan {
         RemovePlan::Hit(slot, examined, used) => {
             free(marks, offsets, lengths, arena, slot, used);
-            Dropped::Removed(slot, examined)
+            Ok(Lookup::Found((), slot, examined))
         }
-        RemovePlan::Absent(examined) => Dropped::Absent(examined),
-        RemovePlan::Refused(r) => Dropped::Refused(r),
+        RemovePlan::Absent(examined) => Ok(Lookup::Absent(examined)),
     }
 }
 
 // Makes a set equal to another of equal sizes, in every slot and byte.
+#[tactic(auto, using(crate::proofs::Laws::copy_done, kinds::proofs::Copying::copy_slots, kinds::proofs::Copying::copy_arena, kinds::proofs::Copying::copy_from_unsized, kinds::proofs::Copying::copy_unsized, byte_slots::proofs::Sets::fit, byte_slots::proofs::Sets::unfit))]
 pub fn copy(
     to_marks: &mut [u8],
     to_offsets: &mut [u16],
@@ -84,22 +93,18 @@ pub fn copy(
     offsets: &[u16],
     lengths: &[u8],
     arena: &[u8],
-) -> Outcome
+) -> Result<(), Refusal>
     ensures { told (outcome_numbers result) (after to_marks.new to_offsets.new to_lengths.new to_arena.new) ≡ copy_of sets (before to_marks.old to_offsets.old to_lengths.old to_arena.old) (before marks.now offsets.now lengths.now arena.now) }
 {
-    if to_arena.len() != arena.len() {
-        return Outcome::Refused(Refusal::Sizes);
+    if !fits(to_marks, to_offsets, to_lengths, to_arena) || !fits(marks, offsets, lengths, arena) {
+        return Err(Refusal::Sizes);
     }
-    if fits(to_marks, to_offsets, to_lengths, to_arena) {
-        if fits(marks, offsets, lengths, arena) {
-            if to_marks.len() == marks.len() {
-                copy_bytes(to_marks, marks);
-                copy_shorts(to_offsets, offsets);
-                copy_bytes(to_lengths, lengths);
-                copy_bytes(to_arena, arena);
-                return Outcome::Done;
-            }
-        }
+    if to_marks.len() != marks.len() || to_arena.len() != arena.len() {
+        return Err(Refusal::Sizes);
     }
-    Outcome::Refused(Refusal::Sizes)
+    arrays::copy(to_marks, marks);
+    arrays::copy(to_offsets, offsets);
+    arrays::copy(to_lengths, lengths);
+    arrays::copy(to_arena, arena);
+    Ok(())
 }

@@ -1,6 +1,5 @@
 -- Each contract settles its answer: two results that it allows are equal.
-use Prim.Native.Nat.{ℕ}
-use mathlib.Core.List.{List}
+use Rattle.std.proofs.Common.{ℕ, List}
 use Rattle.answers.specs.Numbers.{counted_numbers, emptiness_numbers, reserved_numbers, spanned_numbers, contained_numbers}
 use Rattle.answers.proofs.Equal.{counted_numbers_injective, emptiness_numbers_injective, reserved_numbers_injective, spanned_numbers_injective, contained_numbers_injective}
 use Rattle.kinds.specs.Calls.{capacity_of, len_of, is_empty_of, reserve_of, contains_of}

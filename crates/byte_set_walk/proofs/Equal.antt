@@ -1,45 +1,45 @@
 -- Equal numbers are equal steps: the paper's numbers tell a step's walk, what it hands out, and its examined number.
-use Prim.Native.Nat.{ℕ}
-use mathlib.Core.Path.{◌≡◌, refl, sym, ◌∙◌, ap, ap₂}
+use Rattle.std.proofs.Common.{ℕ, Result, Ok, Err, ◌≡◌, refl, sym, ◌∙◌, ap}
+use Rattle.answers.specs.declared.Refusal.{Refusal}
 use Rattle.answers.proofs.Told.{number_of_injective, other_case}
 use Rattle.byte_set_walk.specs.declared.Yielded.{Yielded}
-use Rattle.byte_set_walk.specs.declared.Yielded.TheVariants.{Member, Nothing, Done, Refused}
+use Rattle.byte_set_walk.specs.declared.Yielded.TheVariants.{Member, Nothing, Done}
 use Rattle.byte_set_walk.specs.declared.Stepped.{Stepped}
 use Rattle.byte_set_walk.specs.Numbers.{yielded_numbers, step_numbers}
 
 module _ (w e : ℕ) where
-  walk_told : (x : Yielded) → (yielded_numbers w e x).walk ≡ w
+  walk_told : (x : Result Yielded Refusal) → (yielded_numbers w e x).walk ≡ w
   unfolding yielded_numbers
-  walk_told (Member o l) = refl
-  walk_told Nothing = refl
-  walk_told Done = refl
-  walk_told (Refused r) = refl
+  walk_told (Ok (Member o)) = refl
+  walk_told (Ok Nothing) = refl
+  walk_told (Ok Done) = refl
+  walk_told (Err r) = refl
 
-  examined_told : (x : Yielded) → (yielded_numbers w e x).examined ≡ e
+  examined_told : (x : Result Yielded Refusal) → (yielded_numbers w e x).examined ≡ e
   unfolding yielded_numbers
-  examined_told (Member o l) = refl
-  examined_told Nothing = refl
-  examined_told Done = refl
-  examined_told (Refused r) = refl
+  examined_told (Ok (Member o)) = refl
+  examined_told (Ok Nothing) = refl
+  examined_told (Ok Done) = refl
+  examined_told (Err r) = refl
 
-  yielded_injective : (z f : ℕ) (x y : Yielded) → yielded_numbers w e x ≡ yielded_numbers z f y → x ≡ y
+  yielded_injective : (z f : ℕ) (x y : Result Yielded Refusal) → yielded_numbers w e x ≡ yielded_numbers z f y → x ≡ y
   unfolding yielded_numbers
-  yielded_injective z f (Member o l) (Member p m) q = ap₂ Member (ap (λ n. n.offset) q) (ap (λ n. n.length) q)
-  yielded_injective z f (Member o l) Nothing q = other_case q refl
-  yielded_injective z f (Member o l) Done q = other_case q refl
-  yielded_injective z f (Member o l) (Refused r) q = other_case q refl
-  yielded_injective z f Nothing (Member p m) q = other_case q refl
-  yielded_injective z f Nothing Nothing q = refl
-  yielded_injective z f Nothing Done q = other_case q refl
-  yielded_injective z f Nothing (Refused r) q = other_case q refl
-  yielded_injective z f Done (Member p m) q = other_case q refl
-  yielded_injective z f Done Nothing q = other_case q refl
-  yielded_injective z f Done Done q = refl
-  yielded_injective z f Done (Refused r) q = other_case q refl
-  yielded_injective z f (Refused r) (Member p m) q = other_case q refl
-  yielded_injective z f (Refused r) Nothing q = other_case q refl
-  yielded_injective z f (Refused r) Done q = other_case q refl
-  yielded_injective z f (Refused r) (Refused s) q = ap Refused (number_of_injective r s (ap (λ n. n.refusal) q))
+  yielded_injective z f (Ok (Member o)) (Ok (Member p)) q = ap (λ n. Ok (Member (record { offset = n.offset; length = n.length }))) q
+  yielded_injective z f (Ok (Member o)) (Ok Nothing) q = other_case q refl
+  yielded_injective z f (Ok (Member o)) (Ok Done) q = other_case q refl
+  yielded_injective z f (Ok (Member o)) (Err r) q = other_case q refl
+  yielded_injective z f (Ok Nothing) (Ok (Member p)) q = other_case q refl
+  yielded_injective z f (Ok Nothing) (Ok Nothing) q = refl
+  yielded_injective z f (Ok Nothing) (Ok Done) q = other_case q refl
+  yielded_injective z f (Ok Nothing) (Err r) q = other_case q refl
+  yielded_injective z f (Ok Done) (Ok (Member p)) q = other_case q refl
+  yielded_injective z f (Ok Done) (Ok Nothing) q = other_case q refl
+  yielded_injective z f (Ok Done) (Ok Done) q = refl
+  yielded_injective z f (Ok Done) (Err r) q = other_case q refl
+  yielded_injective z f (Err r) (Ok (Member p)) q = other_case q refl
+  yielded_injective z f (Err r) (Ok Nothing) q = other_case q refl
+  yielded_injective z f (Err r) (Ok Done) q = other_case q refl
+  yielded_injective z f (Err r) (Err s) q = ap Err (number_of_injective r s (ap (λ n. n.refusal) q))
 
 -- a step's numbers tell its walk
 pub walk_of_law : (s : Stepped) → (step_numbers s).walk ≡ s.walk.at

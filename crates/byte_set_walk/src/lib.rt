@@ -8,30 +8,31 @@ ghost use Rattle.byte_slots.specs.Kinds.{set_step_of};
 ghost use Rattle.byte_slots.specs.Sets.{before};
 ghost use Rattle.byte_set_walk.specs.Numbers.{step_numbers};
 
-use answers::{NOTHING, Numbers, Refusal, WALK_DONE, number, span_walk_numbers, walk_numbers};
+use answers::{
+    Case, Numbers, Refusal, Span, refused_walk_numbers, span_walk_numbers, walk_numbers,
+};
 use byte_slots::{len_at, offset_at};
 use kinds::Ahead;
 
 // A walk of a set is the slot where it stands.
-#[derive(Clone, Copy)]
+#[derive(Clone, Copy, Debug, PartialEq, Eq)]
 pub struct Walk {
     pub at: usize,
 }
 
-// What a step of a walk hands out: a key's offset and length, nothing, or that the walk is done; or a refusal.
-#[derive(Drop)]
+// What a step of a walk hands out: a key's part of the arena, nothing, or that the walk is done.
+#[derive(Clone, Copy, Debug, PartialEq, Eq)]
 pub enum Yielded {
-    Member(usize, usize),
+    Member(Span),
     Nothing,
     Done,
-    Refused(Refusal),
 }
 
-// The answer of a step: the walk moved on, what it hands out, and the examined number.
-#[derive(Drop)]
+// The answer of a step: the walk moved on, what it hands out or a refusal, and the examined number.
+#[derive(Clone, Copy, Debug, PartialEq, Eq)]
 pub struct Stepped {
     pub walk: Walk,
-    pub out: Yielded,
+    pub out: Result<Yielded, Refusal>,
     pub examined: usize,
 }
 
@@ -55,30 +56,29 @@ impl Walk {
         ensures { step_numbers result ≡ set_step_of (before marks.now offsets.now lengths.now arena.now) self.at budget }
     {
         let at = self.at;
-        let ahead = byte_slots::ahead(marks, offsets, lengths, arena, at, budget);
-        match ahead {
-            Ahead::Live(slot) => {
+        match byte_slots::ahead(marks, offsets, lengths, arena, at, budget) {
+            Ok(Ahead::Live(slot)) => {
                 let offset = offset_at(offsets, slot) as usize;
                 let length = len_at(lengths, slot) as usize;
                 Stepped {
                     walk: Walk { at: slot + 1 },
-                    out: Yielded::Member(offset, length),
+                    out: Ok(Yielded::Member(Span { offset, length })),
                     examined: slot + 1 - at,
                 }
             }
-            Ahead::Nothing(slot) => Stepped {
+            Ok(Ahead::Nothing(slot)) => Stepped {
                 walk: Walk { at: slot },
-                out: Yielded::Nothing,
+                out: Ok(Yielded::Nothing),
                 examined: slot - at,
             },
-            Ahead::Done => Stepped {
-                walk: Walk { at },
-                out: Yielded::Done,
+            Ok(Ahead::Done) => Stepped {
+                walk: self,
+                out: Ok(Yielded::Done),
                 examined: 0,
             },
-            Ahead::Refused(why) => Stepped {
-                walk: Walk { at },
-                out: Yielded::Refused(why),
+            Err(refusal) => Stepped {
+                walk: self,
+                out: Err(refusal),
                 examined: 0,
             },
         }
@@ -102,16 +102,15 @@ impl Walk {
 }
 
 // The numbers of a step of a walk.
+#[tactic(auto, unfolding(crate::specs::Numbers::step_numbers, crate::specs::Numbers::yielded_numbers))]
 pub fn step_numbers(s: Stepped) -> Numbers
     ensures { result ≡ step_numbers s }
 {
     let at = s.walk.at;
-    let examined = s.examined;
-    let out = s.out;
-    match out {
-        Yielded::Member(offset, length) => span_walk_numbers(0, offset, length, examined, at),
-        Yielded::Nothing => walk_numbers(0, NOTHING, 0, 0, examined, at),
-        Yielded::Done => walk_numbers(0, WALK_DONE, 0, 0, examined, at),
-        Yielded::Refused(r) => walk_numbers(number(r), 0, 0, 0, examined, at),
+    match s.out {
+        Ok(Yielded::Member(span)) => span_walk_numbers(0, span, s.examined, at),
+        Ok(Yielded::Nothing) => walk_numbers(Case::Nothing, 0, 0, s.examined, at),
+        Ok(Yielded::Done) => walk_numbers(Case::WalkDone, 0, 0, s.examined, at),
+        Err(refusal) => refused_walk_numbers(refusal, s.examined, at),
     }
 }

@@ -1,10 +1,6 @@
 -- The arena after a key was put behind its used bytes, and after a gap was closed: its bytes one by one, and the spans that stay.
-use Prim.Native.Nat.{ℕ, ◌+◌, ◌-◌, ◌≤◌, ◌<◌}
-use mathlib.Core.List.{List, ◌++◌}
-use mathlib.Core.Path.{◌≡◌, refl, ◌∙◌, ap}
-use native.Mathlib.Omega.{arith}
-use lib.ListN.{length, get_or, take, drop, replicate, length-append, length-take, length-drop, length-replicate, get_or-append}
-use lib.Seq.{length-take-le, get_or-take, get_or-drop, ext_get_or}
+use Rattle.std.proofs.Common.{ℕ, ◌+◌, ◌-◌, ◌≤◌, ◌<◌, List, ◌++◌, ◌≡◌, refl, ◌∙◌, ap, arith, length, get_or, take, drop, replicate, length-append, length-take, length-drop, length-take-le, get_or-take, get_or-drop, ext_get_or}
+use lib.ListN.{length-replicate, get_or-append}
 use Rattle.lists.proofs.Parts.{get_d_zeros, get_d_behind, length_part, get_d_part, same_part}
 use Rattle.byte_slots.specs.Memory.{part, pasted, closed}
 

@@ -1,9 +1,5 @@
 -- A byte map is a byte set with a column: where the column is as long as the marks, they have the same sizes, damage and length, and find the same.
-use mathlib.Core.Bool.{true}
-use mathlib.Core.List.{List}
-use mathlib.Core.Path.{◌≡◌, refl}
-use Prim.Native.Nat.{ℕ}
-use lib.ListN.{length}
+use Rattle.std.proofs.Common.{true, List, ◌≡◌, refl, ℕ, length}
 use Rattle.kinds.specs.Calls.{contains_of}
 use Rattle.kinds.specs.Columns.{Column, nothing}
 use Rattle.kinds.proofs.Alike.{stand_beside}

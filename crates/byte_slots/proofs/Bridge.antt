@@ -1,12 +1,6 @@
 -- What the answers over the spans say of the calls' definitions, for any column: the laws that byte maps and byte sets cite.
-use Prim.Native.Nat.{ℕ, zero, suc, ◌≤◌, ◌<◌}
-use mathlib.Core.Bool.{Bool, true, false}
-use mathlib.Core.List.{List}
-use mathlib.Core.Path.{◌≡◌, refl, sym, ◌∙◌}
-use native.Mathlib.Omega.{arith}
-use borrow.Author.Tests.{eqb-true}
-use lib.Dec.{eqb}
-use lib.ListN.{length}
+use Rattle.std.proofs.Common.{ℕ, zero, suc, ◌≤◌, ◌<◌, Bool, true, false, List, ◌≡◌, refl, sym, ◌∙◌, ap, arith, eqb-true, eqb, length, Result, Ok, Err}
+use Rattle.model.specs.Slots.{any_damaged}
 use Rattle.model.specs.Store.{path, live_count, used, damaged_slots}
 use Rattle.model.specs.Calls.{Or, no, ok, need, pass, Seen, found, absent, Spot, occupied, vacant, seen_by, spot_by, get, entry, remove, rule, lacking, any_damage}
 use Rattle.model.proofs.Cases.{by_bool, clash}
@@ -15,23 +9,14 @@ use Rattle.digest.proofs.Bounds.{home_below}
 use Rattle.answers.specs.declared.Refusal.{Refusal}
 use Rattle.answers.specs.Refusals.{number_of}
 use Rattle.answers.proofs.Told.{number_of_range}
-use Rattle.kinds.specs.declared.Probed.{Probed}
-use Rattle.kinds.specs.declared.Probed.TheVariants as probed
-use Rattle.kinds.specs.declared.Scanned.{Scanned}
-use Rattle.kinds.specs.declared.Scanned.TheVariants as scanned
 use Rattle.kinds.specs.Columns.{Column}
-use Rattle.kinds.specs.Marks.{cells_of}
+use Rattle.kinds.specs.Marks.{cells_of, marks_only}
 use Rattle.kinds.specs.Probing.{along, missed_of}
+use Rattle.kinds.specs.Scanning.{scanning_of}
 use Rattle.kinds.proofs.Alike.{total_alike}
 use Rattle.kinds.proofs.Bridge as kinds
 use Rattle.kinds.proofs.Bridge.{seen_of, spot_in, path_cells, seen_path, spot_path}
 use Rattle.kinds.proofs.Uniting.{rule_of, lacking_probed, rule_probed}
-use Rattle.byte_slots.specs.declared.Kept.{Kept}
-use Rattle.byte_slots.specs.declared.Kept.TheVariants as kept
-use Rattle.byte_slots.specs.declared.InsertPlan.{InsertPlan}
-use Rattle.byte_slots.specs.declared.InsertPlan.TheVariants as insert_plan
-use Rattle.byte_slots.specs.declared.RemovePlan.{RemovePlan}
-use Rattle.byte_slots.specs.declared.RemovePlan.TheVariants as remove_plan
 use Rattle.byte_slots.specs.Memory.{ByteMemory, byte_store, key_at, used_of, full_damage, fitting, asked_of, keeping, kept_number, kept_of}
 use Rattle.byte_slots.specs.Marks.{mark_of}
 use Rattle.byte_slots.specs.Planning.{insert_plan_by, room_for, planning_kept, kept_plan, planning_insert, remove_plan_by, planning_remove}
@@ -40,18 +25,25 @@ use Rattle.byte_slots.specs.Scanning.{scanning}
 use Rattle.byte_slots.proofs.Held.{bare_damaged, unharmed_whole}
 use Rattle.byte_slots.proofs.Marks.{slots_cells}
 use Rattle.byte_slots.proofs.Sizes.{Sized, fitting_says}
+use Rattle.kinds.specs.declared.Probed.{Probed}
+use Rattle.kinds.specs.declared.Probed.TheVariants.{Hit, Free, Full}
+use Rattle.answers.specs.declared.Refusal.TheVariants as refusal
+use Rattle.byte_slots.specs.declared.InsertPlan.{InsertPlan}
+use Rattle.byte_slots.specs.declared.InsertPlan.TheVariants.{Hit, Free}
+use Rattle.byte_slots.specs.declared.RemovePlan.{RemovePlan}
+use Rattle.byte_slots.specs.declared.RemovePlan.TheVariants.{Hit, Absent}
 
 -- What entry and insert answer by their plan; `read` gives the value at a slot.
-abbrev pub spot_of : {W : Type 0} → (ℕ → W) → InsertPlan → Or (Spot W)
-spot_of read (insert_plan.Hit i e) = ok (occupied i (read i) e)
-spot_of read (insert_plan.Free i e u) = ok (vacant i e)
-spot_of read (insert_plan.Refused x) = no (number_of x)
+abbrev pub spot_of : {W : Type 0} → (ℕ → W) → Result InsertPlan Refusal → Or (Spot W)
+spot_of read (Ok (Hit i e)) = ok (occupied i (read i) e)
+spot_of read (Ok (Free i e u)) = ok (vacant i e)
+spot_of read (Err x) = no (number_of x)
 
 -- What remove answers by its plan.
-abbrev pub lost_of : {W : Type 0} → (ℕ → W) → RemovePlan → Or (Seen W)
-lost_of read (remove_plan.Hit i e u) = ok (found (read i) i e)
-lost_of read (remove_plan.Absent e) = ok (absent e)
-lost_of read (remove_plan.Refused x) = no (number_of x)
+abbrev pub lost_of : {W : Type 0} → (ℕ → W) → Result RemovePlan Refusal → Or (Seen W)
+lost_of read (Ok (Hit i e u)) = ok (found (read i) i e)
+lost_of read (Ok (Absent e)) = ok (absent e)
+lost_of read (Err x) = no (number_of x)
 
 -- a key that may not be asked for is refused 2
 pub asked_no : (k : List ℕ) → eqb (asked_of k) 0 ≡ false → asked_of k ≡ 2
@@ -66,26 +58,26 @@ unfolding pass
 pass_no zero a l = let z : ⊥ = omega arith in absurd z
 pass_no (suc n) a l = refl
 
-pub pass_kept : {A : Type 0} (f : InsertPlan → Or A) (x : Kept) (a : Or A) (p : InsertPlan) → ((r : Refusal) → x ≡ kept.Refused r → f (insert_plan.Refused r) ≡ no (number_of r)) → a ≡ f p → pass (kept_number x) a ≡ f (kept_plan x p)
+pub pass_kept : {A : Type 0} (f : Result InsertPlan Refusal → Or A) (x : Result (Unit {0}) Refusal) (a : Or A) (p : Result InsertPlan Refusal) → ((r : Refusal) → x ≡ Err r → f (Err r) ≡ no (number_of r)) → a ≡ f p → pass (kept_number x) a ≡ f (kept_plan x p)
 unfolding pass kept_plan
-pass_kept f kept.Fine a p h e = e
-pass_kept f (kept.Refused r) a p h e = pass_no (number_of r) a (number_of_range r).0 ∙ sym (h r refl)
+pass_kept f (Ok tt) a p h e = e
+pass_kept f (Err r) a p h e = pass_no (number_of r) a (number_of_range r).0 ∙ sym (h r refl)
 
 -- both plans, by the path
-spot_planned : {W : Type 0} (read : ℕ → W) (u : ℕ) (room : Bool) (p : Probed) → spot_in room read p ≡ spot_of read (insert_plan_by u room p)
+spot_planned : {W : Type 0} (read : ℕ → W) (u : ℕ) (room : Bool) (p : Result Probed Refusal) → spot_in room read p ≡ spot_of read (insert_plan_by u room p)
 unfolding insert_plan_by
-spot_planned read u room (probed.Hit i e) = refl
-spot_planned read u true (probed.Free i e) = refl
-spot_planned read u false (probed.Free i e) = refl
-spot_planned read u room (probed.Full e) = refl
-spot_planned read u room (probed.Refused x) = refl
+spot_planned read u room (Ok (Hit i e)) = refl
+spot_planned read u true (Ok (Free i e)) = refl
+spot_planned read u false (Ok (Free i e)) = refl
+spot_planned read u room (Ok (Full e)) = refl
+spot_planned read u room (Err x) = refl
 
-seen_planned : {W : Type 0} (read : ℕ → W) (u : ℕ) (p : Probed) → seen_of read p ≡ lost_of read (remove_plan_by u p)
+seen_planned : {W : Type 0} (read : ℕ → W) (u : ℕ) (p : Result Probed Refusal) → seen_of read p ≡ lost_of read (remove_plan_by u p)
 unfolding remove_plan_by
-seen_planned read u (probed.Hit i e) = refl
-seen_planned read u (probed.Free i e) = refl
-seen_planned read u (probed.Full e) = refl
-seen_planned read u (probed.Refused x) = refl
+seen_planned read u (Ok (Hit i e)) = refl
+seen_planned read u (Ok (Free i e)) = refl
+seen_planned read u (Ok (Full e)) = refl
+seen_planned read u (Err x) = refl
 
 module _ {W : Type 0} (C : Column W) (m : ByteMemory C) where
   stand : (byte_store C).slots m ≡ cells_of (mark_of m.spans) (key_at m.spans) (C.read m.words)
@@ -133,11 +125,11 @@ module _ {W : Type 0} (C : Column W) (m : ByteMemory C) where
     rule_is v = rule_probed (byte_store C) m k (sym path_is) v
 
     -- a slot that the path found is one of the table's
-    pub path_inside : fitting m.spans ≡ true → {i e : ℕ} → path_of m.spans k ≡ probed.Hit i e → i < length m.spans.marks
+    pub path_inside : fitting m.spans ≡ true → {i e : ℕ} → path_of m.spans k ≡ Ok (Hit i e) → i < length m.spans.marks
     path_inside f q = kinds.hit_below (byte_store C) m k (home_below 0 (length m.spans.marks) k (fitting_says m.spans f).some) (path_is ∙ q)
 
     -- and so is one that the probing found, in lists that agree
-    pub probing_inside : {r : Probed} {i e : ℕ} → r ≡ probing m.spans k → r ≡ probed.Hit i e → (i < length m.spans.marks) × Sized m.spans
+    pub probing_inside : {r : Result Probed Refusal} {i e : ℕ} → r ≡ probing m.spans k → r ≡ Ok (Hit i e) → (i < length m.spans.marks) × Sized m.spans
     unfolding probing
     probing_inside p q = by_bool (fitting m.spans)
         (λ f. by_bool (eqb (asked_of k) 0)
@@ -174,11 +166,15 @@ module _ {W : Type 0} (C : Column W) (m : ByteMemory C) where
           (λ f. rw f))
 
   -- the scan tells the table's own damage and length
-  module _ {r : Scanned} (p : r ≡ scanning m.spans) where
-    pub scan_bad : r ≡ scanned.Damaged → damaged_slots (byte_store C) m ≡ true
-    unfolding scanning
-    scan_bad q = kinds.scan_bad (byte_store C) m (mark_of m.spans) (key_at m.spans) (C.read m.words) stand p q
+  module _ {r : Result ℕ Refusal} (p : r ≡ scanning m.spans) where
+    pub scan_bad : {y : Refusal} → r ≡ Err y → (damaged_slots (byte_store C) m ≡ true) × (y ≡ refusal.Damaged)
+    unfolding scanning scanning_of
+    scan_bad {y} q =
+        let e : y ≡ refusal.Damaged = by_bool (any_damaged (marks_only (mark_of m.spans)) (length m.spans.marks))
+        (λ h. let z : Err y ≡ Err refusal.Damaged = rw h at (sym q ∙ p) in cc)
+        (λ h. clash (cc (rw h at (sym q ∙ p)))) in
+        (kinds.scan_bad (byte_store C) m (mark_of m.spans) (key_at m.spans) (C.read m.words) stand p (q ∙ ap Err e), e)
 
-    pub scan_live : {n : ℕ} → r ≡ scanned.Live n → (damaged_slots (byte_store C) m ≡ false) × (live_count (byte_store C) m ≡ n) × (n ≤ length m.spans.marks)
+    pub scan_live : {n : ℕ} → r ≡ Ok n → (damaged_slots (byte_store C) m ≡ false) × (live_count (byte_store C) m ≡ n) × (n ≤ length m.spans.marks)
     unfolding scanning
     scan_live q = kinds.scan_live (byte_store C) m (mark_of m.spans) (key_at m.spans) (C.read m.words) stand p q

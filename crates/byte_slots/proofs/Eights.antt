@@ -1,11 +1,5 @@
 -- Bytes joined to one number, low byte first: two halves make the whole, and one number has one string of eight.
-use Prim.Native.Nat.{ℕ, zero, suc, ◌+◌, ◌*◌, ◌/◌, ◌%◌, ◌^◌, ◌≤◌, ◌<◌}
-use mathlib.Core.List.{List, ◌++◌}
-use mathlib.Core.Path.{◌≡◌, ap, sym, ◌∙◌}
-use native.Mathlib.Nat.{pow-suc, mod-eq_of_lt}
-use native.Mathlib.Omega.{arith}
-use lib.ListN.{length, get_or, take, drop}
-use lib.Seq.{drop-cons, drop-drop, take-add}
+use Rattle.std.proofs.Common.{ℕ, zero, suc, ◌+◌, ◌*◌, ◌/◌, ◌%◌, ◌^◌, ◌≤◌, ◌<◌, List, ◌++◌, ◌≡◌, ap, sym, ◌∙◌, pow-suc, mod-eq_of_lt, arith, length, get_or, take, drop, drop-cons, drop-drop, take-add}
 use Rattle.lists.specs.Bytes.{le, num}
 use Rattle.lists.proofs.Bytes.{num_le}
 

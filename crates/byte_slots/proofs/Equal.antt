@@ -1,13 +1,6 @@
 -- Two byte strings compared, by eights and byte by byte.
-use Prim.Native.Nat.{ℕ, zero, suc, ◌+◌, ◌-◌, ◌^◌, ◌≤◌, ◌<◌}
-use mathlib.Core.Bool.{Bool, true, false}
-use mathlib.Core.List.{List, [], ◌∷◌}
-use mathlib.Core.Path.{◌≡◌, refl, ap, sym, ◌∙◌}
-use native.Mathlib.Numerals.{add-one}
-use native.Mathlib.Omega.{arith}
-use borrow.Author.Tests.{eq-eqb, ne_eqb}
-use lib.ListN.{length, get_or, take, drop, length-drop}
-use lib.Seq.{drop-cons, drop-drop, drop-length, take_all}
+use Rattle.std.proofs.Common.{ℕ, zero, suc, ◌+◌, ◌^◌, ◌≤◌, ◌<◌, true, false, List, [], ◌∷◌, ◌≡◌, refl, ap, sym, ◌∙◌, add-one, arith, eq-eqb, ne_eqb, length, get_or, take, drop, drop-cons, drop-drop}
+use lib.Seq.{drop-length}
 use Rattle.model.proofs.Cases.{by_bool}
 use Rattle.lists.specs.Bytes.{le}
 use Rattle.byte_slots.specs.Keys.{same_bytes, same_right}
@@ -36,9 +29,6 @@ same_behind (suc n) (x ∷ xs) (y ∷ ys) e =
     let f : x ≡ y = ap (λ l. get_or l 0 0) e in
     let g : take n xs ≡ take n ys = ap (drop 1) e in
     rw (same_behind n xs ys g, eq-eqb x y f)
-
-pub alike_start : (a b : List ℕ) → length a ≡ length b → Alike a b 0
-alike_start a b e = record { within = omega arith; long = e; rest = refl }
 
 module _ {a b : List ℕ} {i : ℕ} (w : Alike a b i) where
   step : i < length a → same_bytes (get_or a i 0 ∷ drop (suc i) a) (get_or b i 0 ∷ drop (suc i) b) ≡ same_bytes a b
@@ -82,10 +72,3 @@ module _ {a b : List ℕ} {i : ℕ} (w : Alike a b i) where
       let p : drop i a ≡ [] = rw e (drop-length a) in
       let q : drop i b ≡ [] = rw f (drop-length b) in
       rw (← w.rest, p, q)
-
-  -- what is left behind the eights decides
-  pub alike_tail : {r : Bool} → r ≡ same_bytes (take (length a - i) (drop i a)) (take (length b - i) (drop i b)) → r ≡ same_bytes a b
-  alike_tail e =
-      let p : take (length a - i) (drop i a) ≡ drop i a = take_all (length a - i) (drop i a) (omega (arith, length-drop i a)) in
-      let q : take (length b - i) (drop i b) ≡ drop i b = take_all (length b - i) (drop i b) (omega (arith, length-drop i b)) in
-      e ∙ rw (p, q) w.rest

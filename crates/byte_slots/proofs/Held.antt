@@ -1,12 +1,6 @@
 -- What a slot holds, by its mark and span; the slots alone say as much of damage and weight; what it means that a table is not harmful.
-use Prim.Native.Nat.{ℕ, zero, suc, ◌≤◌, ◌<◌}
-use mathlib.Core.Bool.{Bool, true, false, ◌&&◌}
-use mathlib.Core.List.{List}
-use mathlib.Core.Path.{◌≡◌, refl, sym, ◌∙◌, ap, subst}
-use native.Mathlib.Omega.{arith}
-use borrow.Author.Tests.{ltb-false, leb-true, leb-false, le-ltb, eq-eqb}
-use lib.Dec.{eqb, ltb, leb}
-use lib.ListN.{length, get_or, get_or-eq_default}
+use Rattle.std.proofs.Common.{ℕ, zero, suc, ◌≤◌, ◌<◌, Bool, true, false, ◌&&◌, List, ◌≡◌, refl, sym, ◌∙◌, ap, subst, arith, ltb-false, leb-true, leb-false, le-ltb, eq-eqb, eqb, ltb, leb, length, get_or}
+use lib.ListN.{get_or-eq_default}
 use Rattle.model.specs.Slots.{never, freed, damaged, live, frees, is_damaged, weigh, total, any_damaged}
 use Rattle.model.proofs.Cases.{by_bool, by_lt, by_eq, clash}
 use Rattle.lists.proofs.Parts.{length_part}

@@ -1,9 +1,5 @@
 -- A byte key is refused 2 before any slot is looked at, or not at all.
-use Prim.Native.Nat.{ℕ}
-use mathlib.Core.List.{List}
-use mathlib.Core.Logic.{inl, inr}
-use mathlib.Core.Path.{refl}
-use lib.ListN.{length}
+use Rattle.std.proofs.Common.{ℕ, List, inl, inr, refl, length}
 use Rattle.model.proofs.Cases.{by_bool}
 use Rattle.model.specs.Demand1.{KeyBar}
 use Rattle.digest.specs.Home.{key_fits}

@@ -1,12 +1,5 @@
 -- Byte tables are a lawful store, for maps and sets alike: each write changes the slots as it should, and keeps the spans sound.
-use Prim.Native.Nat.{ℕ, ◌+◌, ◌≤◌, ◌<◌}
-use mathlib.Core.Bool.{true, false, ◌&&◌}
-use mathlib.Core.List.{List}
-use mathlib.Core.Path.{◌≡◌, refl, sym, ◌∙◌, ap}
-use native.Mathlib.Omega.{arith}
-use borrow.Author.Tests.{ltb-true, eqb-true}
-use lib.Dec.{eqb, ltb, leb}
-use lib.ListN.{length, length-set}
+use Rattle.std.proofs.Common.{ℕ, ◌+◌, ◌≤◌, ◌<◌, true, false, ◌&&◌, List, ◌≡◌, refl, sym, ◌∙◌, ap, arith, ltb-true, eqb-true, eqb, ltb, leb, length, length-set}
 use Rattle.model.specs.Slots.{freed, live, Table, put, made}
 use Rattle.model.specs.Sound.{SoundSlots}
 use Rattle.model.specs.Store.{used}

@@ -18,7 +18,6 @@ pub mod Planning
 pub mod Plans
 pub mod Seeking
 pub mod Sets
-pub mod Sights
 pub mod Sizes
 pub mod Surveys
 pub mod Keys

@@ -1,9 +1,5 @@
 -- The test of a byte map's sizes, and what right sizes say.
-use mathlib.Core.Bool.{Bool, true, false}
-use mathlib.Core.Path.{◌≡◌, sym, ◌∙◌}
-use borrow.Author.Tests.{eqb-true, ne_eqb}
-use lib.Dec.{eqb}
-use lib.ListN.{length}
+use Rattle.std.proofs.Common.{Bool, true, false, ◌≡◌, sym, ◌∙◌, eqb-true, ne_eqb, eqb, length}
 use Rattle.model.proofs.Cases.{both}
 use Rattle.kinds.specs.Calls.{sized_of}
 use Rattle.kinds.specs.Columns.{values}
@@ -13,15 +9,6 @@ use Rattle.byte_slots.proofs.Bridge.{sized_short}
 use Rattle.byte_slots.proofs.Sizes.{fitting_says}
 
 module _ (m : ByteMemory values) where
-  -- the sizes, from their tests
-  pub map_fits_more : {b : Bool} → b ≡ fitting m.spans → b ≡ true → eqb (length m.spans.marks) (length m.words) ≡ sized_of maps m
-  unfolding sized_of
-  map_fits_more p q = rw (sym p ∙ q)
-
-  pub map_fits_not : {b : Bool} → b ≡ fitting m.spans → b ≡ false → false ≡ sized_of maps m
-  unfolding sized_of
-  map_fits_not p q = rw (sym p ∙ q)
-
   -- other many values than marks: wrong sizes
   pub map_short : (length m.spans.marks ≡ length m.words → ⊥) → maps.sized m ≡ false
   map_short h = sized_short values m (ne_eqb (length m.spans.marks) (length m.words) h)

@@ -1,15 +1,13 @@
 -- The mark of a slot as calls see it, and the slots by it.
-use Prim.Native.Nat.{ℕ, zero, suc, ◌+◌, ◌-◌, ◌≤◌, ◌<◌}
-use mathlib.Core.Bool.{Bool, true, false}
-use mathlib.Core.List.{List}
-use mathlib.Core.Path.{◌≡◌, refl, sym, ◌∙◌, fun_ext}
-use native.Mathlib.Omega.{arith}
-use borrow.Author.Tests.{le-leb, lt-leb, leb-true}
-use lib.Dec.{leb}
-use lib.ListN.{length, get_or, take, drop, length-drop, get_or-eq_default}
-use lib.Seq.{length-take-le}
+use Rattle.std.proofs.Common.{ℕ, zero, suc, ◌+◌, ◌-◌, ◌≤◌, ◌<◌, Bool, true, false, List, ◌⊎◌, inl, inr, ◌≡◌, refl, sym, ◌∙◌, arith, le-leb, leb-true, leb, length, get_or, take, drop, length-drop, length-take-le}
+use mathlib.Core.Path.{fun_ext}
+use borrow.Author.Tests.{lt-leb}
+use lib.ListN.{get_or-eq_default}
 use Rattle.lists.proofs.Parts.{length_part}
 use Rattle.digest.specs.Home.{key_limit}
+use Rattle.model.proofs.Cases.{clash}
+use Rattle.kinds.specs.declared.Mark.{Mark}
+use Rattle.kinds.specs.declared.Mark.TheVariants.{Never, Live, Freed}
 use Rattle.kinds.specs.Marks.{cell, cells_of}
 use Rattle.byte_slots.specs.Memory.{Spans, part, end_at, key_at, spanned, slots_of}
 use Rattle.byte_slots.specs.Marks.{shown, mark_of}
@@ -81,6 +79,11 @@ shown_live false (suc (suc m)) e = absurd (omega arith)
 pub live_within : (s : Spans) (i : ℕ) → mark_of s i ≡ 1 → end_at s i ≤ length s.arena
 unfolding mark_of
 live_within s i e = leb-true (end_at s i) (length s.arena) (shown_live (leb (end_at s i) (length s.arena)) (get_or s.marks i 0) e)
+
+-- a mark of a slot that is free is no live one
+pub not_live : {k : Mark} → (k ≡ Never) ⊎ (k ≡ Freed) → k ≡ Live → ⊥
+not_live (inl e) z = clash cc
+not_live (inr e) z = clash cc
 
 -- by its words
 pub span_within : (s : Spans) (i : ℕ) {m : ℕ} → m ≡ mark_of s i → m ≡ 1 → get_or s.offsets i 0 + get_or s.lengths i 0 ≤ length s.arena

@@ -1,11 +1,6 @@
 -- The store's soundness is the scope's, clause by clause.
-use Prim.Native.Nat.{ℕ, ◌+◌, ◌≤◌, ◌<◌}
-use mathlib.Core.Bool.{true}
-use mathlib.Core.List.{List}
-use mathlib.Core.Logic.{◌↔◌}
-use mathlib.Core.Path.{◌≡◌, refl, sym, ◌∙◌, ap}
-use native.Mathlib.Omega.{arith}
-use lib.ListN.{length, get_or, get_or-eq_default}
+use Rattle.std.proofs.Common.{ℕ, ◌+◌, ◌≤◌, ◌<◌, true, List, ◌↔◌, ◌≡◌, refl, sym, ◌∙◌, ap, arith, length, get_or}
+use lib.ListN.{get_or-eq_default}
 use Rattle.model.specs.Slots.{live}
 use Rattle.model.specs.Sound.{SoundSlots}
 use Rattle.model.specs.Lawful.{SoundTable}

@@ -1,14 +1,6 @@
 -- Byte tables on any memory without damage: a write does no damage, and changes only the places that it names.
-use Prim.Native.Nat.{ℕ, ◌+◌, ◌≤◌, ◌<◌}
-use mathlib.Core.Bool.{false, ◌&&◌}
-use mathlib.Core.List.{List}
-use mathlib.Core.Logic.{inl, inr}
-use mathlib.Core.Path.{◌≡◌, refl, ◌∙◌, ap}
-use native.Mathlib.Omega.{arith}
-use borrow.Author.Tests.{eqb-false, leb-false, ltb-false}
-use lib.Dec.{eqb, ltb, leb}
-use lib.ListN.{length, get_or}
-use lib.Seq.{get_or-set_other}
+use Rattle.std.proofs.Common.{ℕ, ◌+◌, ◌≤◌, ◌<◌, false, ◌&&◌, List, inl, inr, ◌≡◌, refl, ◌∙◌, ap, arith, leb-false, ltb-false, eqb, ltb, leb, length, get_or, get_or-set_other}
+use borrow.Author.Tests.{eqb-false}
 use Rattle.model.specs.Lawful.{Steady}
 use Rattle.model.specs.Places.{Apart}
 use Rattle.model.proofs.Cases.{by_bool, neither}

@@ -1,18 +1,9 @@
 -- What the probing of a byte map says, by the test of its values.
-use Prim.Native.Nat.{ℕ, ◌<◌}
-use mathlib.Core.Bool.{true, false}
-use mathlib.Core.List.{List}
-use mathlib.Core.Path.{◌≡◌, ◌∙◌}
-use native.Mathlib.Omega.{arith}
-use borrow.Author.Tests.{eqb-true, eq-eqb, ne_eqb}
-use lib.Dec.{eqb}
-use lib.ListN.{length}
+use Rattle.std.proofs.Common.{ℕ, ◌<◌, true, false, List, ◌≡◌, ◌∙◌, arith, eqb-true, eqb, length, Result, Ok, Err}
 use Rattle.model.specs.Calls.{no, pass, seen_by, get}
 use Rattle.model.specs.Store.{path}
 use Rattle.model.proofs.Cases.{by_bool, clash}
 use Rattle.answers.specs.declared.Refusal.TheVariants.{Sizes}
-use Rattle.kinds.specs.declared.Probed.{Probed}
-use Rattle.kinds.specs.declared.Probed.TheVariants as probed
 use Rattle.kinds.specs.Columns.{values}
 use Rattle.kinds.proofs.Bridge.{seen_of}
 use Rattle.byte_slots.specs.Memory.{ByteMemory}
@@ -20,18 +11,13 @@ use Rattle.byte_slots.specs.Kinds.{maps}
 use Rattle.byte_slots.specs.Probing.{probing}
 use Rattle.byte_slots.proofs.Bridge.{short_refused, probing_inside, get_probing}
 use Rattle.byte_slots.specs.Seeking.{where_long, probing_map}
+use Rattle.answers.specs.declared.Refusal.{Refusal}
+use Rattle.kinds.specs.declared.Probed.{Probed}
+use Rattle.kinds.specs.declared.Probed.TheVariants.{Hit}
 
 module _ (m : ByteMemory values) where
   -- an answer where the values are as many as the marks, and where they are not
   module _ {A : Type 0} (a n : A) where
-    pub long_is : {r : A} → length m.spans.marks ≡ length m.words → r ≡ a → r ≡ where_long m a n
-    unfolding where_long
-    long_is e p = rw (eq-eqb (length m.spans.marks) (length m.words) e) p
-
-    pub short_is : (length m.spans.marks ≡ length m.words → ⊥) → n ≡ where_long m a n
-    unfolding where_long
-    short_is h = rw (ne_eqb (length m.spans.marks) (length m.words) h)
-
     pub by_long : {B : Type 0} (f : A → B) (x : B) → (eqb (length m.spans.marks) (length m.words) ≡ true → x ≡ f a) → (eqb (length m.spans.marks) (length m.words) ≡ false → x ≡ f n) → x ≡ f (where_long m a n)
     unfolding where_long
     by_long f x long short = by_bool (eqb (length m.spans.marks) (length m.words)) (λ e. rw e (long e)) (λ e. rw e (short e))
@@ -42,14 +28,6 @@ module _ (m : ByteMemory values) where
     long_only p h = by_bool (eqb (length m.spans.marks) (length m.words)) (λ e. (p ∙ (rw e), eqb-true (length m.spans.marks) (length m.words) e)) (λ e. absurd (h (p ∙ (rw e))))
 
   module _ (k : List ℕ) where
-    pub map_probe_long : {r : Probed} → length m.spans.marks ≡ length m.words → r ≡ probing m.spans k → r ≡ probing_map m k
-    unfolding probing_map
-    map_probe_long e p = long_is (probing m.spans k) (probed.Refused Sizes) e p
-
-    pub map_probe_short : (length m.spans.marks ≡ length m.words → ⊥) → probed.Refused Sizes ≡ probing_map m k
-    unfolding probing_map
-    map_probe_short h = short_is (probing m.spans k) (probed.Refused Sizes) h
-
     -- get by what the probing found
     get_short : eqb (length m.spans.marks) (length m.words) ≡ false → get maps m k ≡ no 1
     unfolding get
@@ -57,11 +35,11 @@ module _ (m : ByteMemory values) where
 
     pub get_probed : get maps m k ≡ seen_of (values.read m.words) (probing_map m k)
     unfolding probing_map
-    get_probed = by_long (probing m.spans k) (probed.Refused Sizes) (seen_of (values.read m.words)) (get maps m k) (get_probing values m k) get_short
+    get_probed = by_long (probing m.spans k) (Err Sizes) (seen_of (values.read m.words)) (get maps m k) (get_probing values m k) get_short
 
     -- a slot that the probing answers is one of the table's
-    pub map_probe_inside : {r : Probed} {i e : ℕ} → r ≡ probing_map m k → r ≡ probed.Hit i e → i < length m.words
+    pub map_probe_inside : {r : Result Probed Refusal} {i e : ℕ} → r ≡ probing_map m k → r ≡ Ok (Hit i e) → i < length m.words
     unfolding probing_map
     map_probe_inside p q =
-        let (x, l) = long_only (probing m.spans k) (probed.Refused Sizes) p (λ z. clash (cc)) in
+        let (x, l) = long_only (probing m.spans k) (Err Sizes) p (λ z. clash (cc)) in
         omega (arith, (probing_inside values m k x q).0)

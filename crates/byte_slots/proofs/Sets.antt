@@ -1,6 +1,5 @@
 -- A byte set's sizes, by the test of the keys' arrays.
-use mathlib.Core.Bool.{Bool, true, false}
-use mathlib.Core.Path.{◌≡◌}
+use Rattle.std.proofs.Common.{Bool, true, false, ◌≡◌}
 use Rattle.byte_slots.specs.Memory.{Spans, fitting}
 use Rattle.byte_slots.specs.Kinds.{sets, as_set}
 

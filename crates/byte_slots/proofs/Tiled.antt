@@ -1,10 +1,5 @@
 -- Live spans that tile a number of bytes: one more behind them, one fewer with the gap closed, and no byte uncovered.
-use Prim.Native.Nat.{ℕ, zero, suc, ◌+◌, ◌-◌, ◌≤◌, ◌<◌}
-use mathlib.Core.Logic.{◌⊎◌, inl, inr, ⊎_elim}
-use mathlib.Core.Path.{◌≡◌, refl, sym, subst}
-use native.Mathlib.Omega.{arith}
-use borrow.Author.Tests.{leb-true, leb-false}
-use lib.Dec.{leb}
+use Rattle.std.proofs.Common.{ℕ, zero, suc, ◌+◌, ◌-◌, ◌≤◌, ◌<◌, ◌⊎◌, inl, inr, ⊎_elim, ◌≡◌, refl, sym, subst, arith, leb-true, leb-false, leb}
 use Rattle.model.specs.Slots.{Table, total, weigh}
 use Rattle.model.proofs.Cases.{by_bool, by_lt}
 use Rattle.byte_slots.specs.Memory.{fall, Tiled}

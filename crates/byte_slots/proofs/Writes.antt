@@ -1,15 +1,9 @@
 -- What a byte table's slots, spans and `used` are after a key is put into a slot, a slot is freed, and all is wiped.
 -- Each write changes one slot and leaves every other live slot its bytes, which it is asked for span by span (`Stays`); then the slots are changed there alone
 -- (`changed`), `used` changes by that slot's weight, and sound spans stay sound.
-use Prim.Native.Nat.{ℕ, zero, suc, ◌+◌, ◌-◌, ◌≤◌, ◌<◌}
-use mathlib.Core.Bool.{true, false, ◌&&◌}
-use mathlib.Core.List.{List, [], ◌∷◌}
-use mathlib.Core.Path.{◌≡◌, refl, sym, ◌∙◌, ap, fun_ext}
-use native.Mathlib.Omega.{arith}
-use borrow.Author.Tests.{le-leb}
-use lib.Dec.{eqb, leb}
-use lib.ListN.{length, get_or, length-set, length-replicate}
-use lib.Seq.{get_or-set_same, get_or-set_other}
+use Rattle.std.proofs.Common.{ℕ, zero, suc, ◌+◌, ◌-◌, ◌≤◌, ◌<◌, true, false, ◌&&◌, List, [], ◌∷◌, ◌≡◌, refl, sym, ◌∙◌, ap, arith, le-leb, eqb, leb, length, get_or, length-set, get_or-set_same, get_or-set_other}
+use mathlib.Core.Path.{fun_ext}
+use lib.ListN.{length-replicate}
 use Rattle.model.specs.Slots.{Slot, freed, live, Table, put, made, weigh, any_damaged}
 use Rattle.model.proofs.Cases.{by_bool, by_eq, clash}
 use Rattle.model.proofs.Slots.{by_put, total_put, damaged_not, damaged_bad}

@@ -6,9 +6,9 @@ use Rattle.answers.specs.declared.Refusal.TheVariants.{LongKey}
 use Rattle.answers.specs.Refusals.{number_of}
 use Rattle.digest.specs.Home.{home_of, slots_fit, key_fits}
 use Rattle.kinds.specs.Columns.{Column}
-use Rattle.byte_slots.specs.declared.Kept.{Kept}
-use Rattle.byte_slots.specs.declared.Kept.TheVariants.{Fine, Refused}
 use Rattle.byte_slots.specs.Keys.{byte_keys}
+use Rattle.std.specs.Prelude.{Result, Ok, Err}
+use Rattle.answers.specs.declared.Refusal.{Refusal}
 
 -- The most bytes that an arena has.
 abbrev pub arena_limit : ℕ
@@ -137,13 +137,13 @@ unfoldable pub asked_of : List ℕ → ℕ
 asked_of k = cond (key_fits (length k)) 0 2
 
 -- Whether a key may be stored, or why not: above the key limit it may not.
-abbrev pub keeping : List ℕ → Kept
-keeping k = cond (key_fits (length k)) Fine (Refused LongKey)
+abbrev pub keeping : List ℕ → Result (Unit {0}) Refusal
+keeping k = cond (key_fits (length k)) (Ok tt) (Err LongKey)
 
 -- The number of that refusal, 0 where there is none.
-abbrev pub kept_number : Kept → ℕ
-kept_number Fine = 0
-kept_number (Refused x) = number_of x
+abbrev pub kept_number : Result (Unit {0}) Refusal → ℕ
+kept_number (Ok tt) = 0
+kept_number (Err x) = number_of x
 
 -- The refusal of a key that is to be stored.
 unfoldable pub kept_of : List ℕ → ℕ

@@ -6,6 +6,7 @@ ghost use Rattle.lists.specs.Bytes.{le};
 ghost use Rattle.digest.specs.Home.{key_limit};
 ghost use Rattle.byte_slots.specs.Keys.{same_bytes};
 ghost use Rattle.kinds.specs.Calls.{sized_of};
+ghost use Rattle.kinds.specs.Marks.{mark_read};
 ghost use Rattle.byte_slots.specs.Kinds.{maps};
 ghost use Rattle.byte_slots.specs.Maps.{before};
 ghost use Rattle.byte_slots.specs.Memory.{part, spans_now, spans_before, fitting, asked_of, keeping};
@@ -19,52 +20,30 @@ ghost use Rattle.byte_slots.specs.Steps.{set_ahead, map_ahead};
 
 use answers::Refusal;
 use digest::{KEY_LIMIT, slot_of_key, slots_fit};
-use kinds::{
-    Ahead, Next, Probed, Scanned, Sight, Stretch, ahead_by, count_mark, ended_at, first_free,
-    next_slot, way,
-};
+use kinds::{Ahead, Mark, Probed, Sight, ahead_by, ended_at, first_free, next_slot, way};
 
 // The most bytes that an arena has.
 pub const ARENA_LIMIT: usize = 32768;
 
-// What a survey of all slots found: `used`, or full damage.
-#[derive(Drop)]
-pub enum Surveyed {
-    Used(usize),
-    Damaged,
-}
-
-// Whether a key may be stored, or why not.
-#[derive(Drop)]
-pub enum Kept {
-    Fine,
-    Refused(Refusal),
-}
-
-// The plan of a call that stores a key: the key's slot, or a free slot with `used`, each with the examined number; or a refusal.
-#[derive(Drop)]
+// The plan of a call that stores a key: the key's slot, or a free slot with `used`, each with the examined number.
+#[derive(Clone, Copy, Debug, PartialEq, Eq)]
 pub enum InsertPlan {
     Hit(usize, usize),
     Free(usize, usize, usize),
-    Refused(Refusal),
 }
 
-// The plan of remove: the key's slot with the examined number and `used`, or the examined number of an absent key; or a refusal.
-#[derive(Drop)]
+// The plan of remove: the key's slot with the examined number and `used`, or the examined number of an absent key.
+#[derive(Clone, Copy, Debug, PartialEq, Eq)]
 pub enum RemovePlan {
     Hit(usize, usize, usize),
     Absent(usize),
-    Refused(Refusal),
 }
 
 // The offset of slot i, 0 beyond the array.
 pub fn offset_at(offsets: &[u16], i: usize) -> u16
     ensures { result ≡ get_or offsets.now i 0 }
 {
-    if i < offsets.len() {
-        return offsets[i];
-    }
-    0
+    offsets.get(i).copied().unwrap_or(0)
 }
 
 // The length of slot i.
@@ -83,19 +62,23 @@ pub fn put_len(lengths: &mut [u8], i: usize, n: usize)
     lengths[i] = n as u8;
 }
 
-// The mark of slot i: a live span past the arena is damage, shown as 3.
-pub fn mark_at(marks: &[u8], offsets: &[u16], lengths: &[u8], arena: &[u8], i: usize) -> u8
+// The mark of slot i: a live span past the arena is damage.
+#[tactic(auto, unfolding(crate::specs::Marks::mark_of, crate::specs::Marks::shown, crate::specs::Memory::end_at, kinds::specs::Marks::mark_read))]
+pub fn mark_at(
+    marks: &[u8],
+    offsets: &[u16],
+    lengths: &[u8],
+    arena: &[u8],
+    i: usize,
+) -> Result<Mark, Refusal>
     requires { (i < length marks.now) × (length offsets.now ≡ length marks.now) × (length lengths.now ≡ length marks.now) }
-    ensures { result ≡ mark_of (spans_before marks.now offsets.now lengths.now arena.now) i }
+    ensures { result ≡ mark_read (mark_of (spans_before marks.now offsets.now lengths.now arena.now) i) }
 {
-    let mark = marks[i];
-    if mark == 1 {
-        if arena.len() < (offsets[i] as usize) + (len_at(lengths, i) as usize) {
-            return 3;
-        }
-        return 1;
+    let mark = Mark::try_from(marks[i])?;
+    if mark == Mark::Live && arena.len() < (offsets[i] as usize) + (len_at(lengths, i) as usize) {
+        return Err(Refusal::Damaged);
     }
-    mark
+    Ok(mark)
 }
 
 // The key of slot i, whose span ends in the arena.
@@ -109,20 +92,18 @@ pub fn key_at<'a>(offsets: &[u16], lengths: &[u8], arena: &'a [u8], i: usize) ->
 }
 
 // Whether marks, offsets and lengths are of one length that a table may have, and the arena of a size that it may have.
+#[tactic(auto, unfolding(crate::specs::Memory::fitting))]
 pub fn fits(marks: &[u8], offsets: &[u16], lengths: &[u8], arena: &[u8]) -> bool
     ensures { result ≡ fitting (spans_before marks.now offsets.now lengths.now arena.now) }
 {
-    if slots_fit(marks.len() as u64) {
-        if marks.len() == offsets.len() {
-            if marks.len() == lengths.len() {
-                return arena.len() <= ARENA_LIMIT;
-            }
-        }
-    }
-    false
+    slots_fit(marks.len() as u64)
+        && marks.len() == offsets.len()
+        && marks.len() == lengths.len()
+        && arena.len() <= ARENA_LIMIT
 }
 
 // Whether a key may be asked for.
+#[tactic(auto, using(crate::proofs::Sizes::asked_test))]
 pub fn may_ask(key: &[u8]) -> bool
     ensures { result ≡ eqb (asked_of key.now) 0 }
 {
@@ -130,13 +111,14 @@ pub fn may_ask(key: &[u8]) -> bool
 }
 
 // Whether a key may be stored, or the refusal.
-pub fn may_keep(key: &[u8]) -> Kept
+pub fn may_keep(key: &[u8]) -> Result<(), Refusal>
     ensures { result ≡ keeping key.now }
 {
     if key.len() <= KEY_LIMIT {
-        return Kept::Fine;
+        Ok(())
+    } else {
+        Err(Refusal::LongKey)
     }
-    Kept::Refused(Refusal::LongKey)
 }
 
 // The two bytes from i on as one number, low byte first.
@@ -198,6 +180,7 @@ pub fn same_bytes(a: &[u8], b: &[u8]) -> bool
 }
 
 // The look at a slot, for a key.
+#[tactic(auto, unfolding(crate::specs::Probing::sight_at, crate::specs::Marks::mark_of, crate::specs::Marks::shown, crate::specs::Memory::end_at, crate::specs::Memory::key_at, crate::specs::Memory::part, kinds::specs::Marks::mark_read, kinds::specs::Marks::cell, kinds::specs::Probing::look_of, kinds::specs::Probing::look_at))]
 pub fn look(
     marks: &[u8],
     offsets: &[u16],
@@ -205,29 +188,25 @@ pub fn look(
     arena: &[u8],
     slot: usize,
     key: &[u8],
-) -> Sight
+) -> Result<Sight, Refusal>
     requires { (slot < length marks.now) × (length offsets.now ≡ length marks.now) × (length lengths.now ≡ length marks.now) }
     ensures { result ≡ sight_at (spans_before marks.now offsets.now lengths.now arena.now) key.now slot }
 {
-    let mark = marks[slot];
-    if mark == 1 {
-        let start = offsets[slot] as usize;
-        let end = start + (len_at(lengths, slot) as usize);
-        if arena.len() < end {
-            return Sight::Damaged;
+    match Mark::try_from(marks[slot])? {
+        Mark::Never => Ok(Sight::Never),
+        Mark::Freed => Ok(Sight::Freed),
+        Mark::Live => {
+            let start = offsets[slot] as usize;
+            let end = start + (len_at(lengths, slot) as usize);
+            if arena.len() < end {
+                Err(Refusal::Damaged)
+            } else if same_bytes(&arena[start..end], key) {
+                Ok(Sight::Same)
+            } else {
+                Ok(Sight::Other)
+            }
         }
-        if same_bytes(&arena[start..end], key) {
-            return Sight::Same;
-        }
-        return Sight::Other;
     }
-    if mark == 0 {
-        return Sight::Never;
-    }
-    if mark == 2 {
-        return Sight::Freed;
-    }
-    Sight::Damaged
 }
 
 // The path of a key from its home slot, slot by slot: each break is an answer.
@@ -238,7 +217,7 @@ fn walk_path(
     arena: &[u8],
     key: &[u8],
     home: usize,
-) -> Probed
+) -> Result<Probed, Refusal>
     requires { (home < length marks.now) × (length offsets.now ≡ length marks.now) × (length lengths.now ≡ length marks.now) }
     ensures { result ≡ path_from (spans_before marks.now offsets.now lengths.now arena.now) home key.now }
 {
@@ -248,16 +227,14 @@ fn walk_path(
     let mut free = size;
     loop {
         if n == size {
-            break ended_at(free, size, n);
+            break Ok(ended_at(free, size, n));
         }
-        let sight = look(marks, offsets, lengths, arena, slot, key);
-        match sight {
-            Sight::Never => break ended_at(first_free(free, slot, size), size, n + 1),
+        match look(marks, offsets, lengths, arena, slot, key)? {
+            Sight::Never => break Ok(ended_at(first_free(free, slot, size), size, n + 1)),
             Sight::Freed => {
                 free = first_free(free, slot, size);
             }
-            Sight::Damaged => break Probed::Refused(Refusal::Damaged),
-            Sight::Same => break Probed::Hit(slot, n + 1),
+            Sight::Same => break Ok(Probed::Hit(slot, n + 1)),
             Sight::Other => {}
         }
         slot = next_slot(slot, size);
@@ -266,35 +243,41 @@ fn walk_path(
 }
 
 // The probing of a key: refusal 1 or 2, or what its path found.
-pub fn probe(marks: &[u8], offsets: &[u16], lengths: &[u8], arena: &[u8], key: &[u8]) -> Probed
+#[tactic(auto, unfolding(crate::specs::Probing::probing, crate::specs::Probing::path_of))]
+pub fn probe(
+    marks: &[u8],
+    offsets: &[u16],
+    lengths: &[u8],
+    arena: &[u8],
+    key: &[u8],
+) -> Result<Probed, Refusal>
     ensures { result ≡ probing (spans_before marks.now offsets.now lengths.now arena.now) key.now }
 {
-    if fits(marks, offsets, lengths, arena) {
-        if may_ask(key) {
-            let home = slot_of_key(key, marks.len() as u64, 0) as usize;
-            return walk_path(marks, offsets, lengths, arena, key, home);
-        }
-        return Probed::Refused(Refusal::LongKey);
+    if !fits(marks, offsets, lengths, arena) {
+        return Err(Refusal::Sizes);
     }
-    Probed::Refused(Refusal::Sizes)
+    if !may_ask(key) {
+        return Err(Refusal::LongKey);
+    }
+    let home = slot_of_key(key, marks.len() as u64, 0) as usize;
+    walk_path(marks, offsets, lengths, arena, key, home)
 }
 
 // The scan of all slots: damage, else the number of live slots.
-pub fn scan(marks: &[u8], offsets: &[u16], lengths: &[u8], arena: &[u8]) -> Scanned
+pub fn scan(marks: &[u8], offsets: &[u16], lengths: &[u8], arena: &[u8]) -> Result<usize, Refusal>
     requires { (length offsets.now ≡ length marks.now) × (length lengths.now ≡ length marks.now) }
     ensures { result ≡ scanning (spans_before marks.now offsets.now lengths.now arena.now) }
 {
     let mut live = 0;
     let mut i = 0;
     while i < marks.len() {
-        let mark = mark_at(marks, offsets, lengths, arena, i);
-        if 2 < mark {
-            return Scanned::Damaged;
+        match mark_at(marks, offsets, lengths, arena, i)? {
+            Mark::Live => live += 1,
+            Mark::Never | Mark::Freed => {}
         }
-        live += count_mark(mark);
         i += 1;
     }
-    Scanned::Live(live)
+    Ok(live)
 }
 
 // The first live or damaged slot from `at` on, before `end`.
@@ -305,49 +288,40 @@ pub fn next_live(
     arena: &[u8],
     at: usize,
     end: usize,
-) -> Next
+) -> Result<Option<usize>, Refusal>
     requires { (end ≤ length marks.now) × (length offsets.now ≡ length marks.now) × (length lengths.now ≡ length marks.now) }
     ensures { result ≡ nexting (spans_before marks.now offsets.now lengths.now arena.now) at end }
 {
     let mut i = at;
     while i < end {
-        let here = mark_at(marks, offsets, lengths, arena, i);
-        if here == 1 {
-            return Next::Live(i);
+        match mark_at(marks, offsets, lengths, arena, i)? {
+            Mark::Live => return Ok(Some(i)),
+            Mark::Never | Mark::Freed => i += 1,
         }
-        if 2 < here {
-            return Next::Damaged;
-        }
-        i += 1;
     }
-    Next::Nothing
+    Ok(None)
 }
 
 // How many marks are 1: the live slots, where none is damaged.
 pub fn live_marks(marks: &[u8]) -> usize
     ensures { result ≡ live_marks marks.now (length marks.now) }
 {
-    let mut live = 0;
-    let mut i = 0;
-    while i < marks.len() {
-        live += count_mark(marks[i]);
-        i += 1;
-    }
-    live
+    marks
+        .iter()
+        .filter(|mark| **mark == Mark::Live as u8)
+        .count()
 }
 
 // The largest end of a live span so far, after one more.
+#[tactic(auto, unfolding(crate::specs::Surveying::higher_end))]
 fn higher_end(end: usize, top: usize) -> usize
     ensures { result ≡ higher_end end top }
 {
-    if top < end {
-        return end;
-    }
-    top
+    if top < end { end } else { top }
 }
 
 // The survey of all slots: full damage, else `used`. No live span ends past the arena where none ends beyond `used`, and that is no more.
-pub fn survey(marks: &[u8], offsets: &[u16], lengths: &[u8], arena: &[u8]) -> Surveyed
+pub fn survey(marks: &[u8], offsets: &[u16], lengths: &[u8], arena: &[u8]) -> Result<usize, Refusal>
     requires { fitting (spans_now marks.now offsets.now lengths.now arena.now) ≡ true }
     ensures { result ≡ surveying (spans_before marks.now offsets.now lengths.now arena.now) }
 {
@@ -355,129 +329,123 @@ pub fn survey(marks: &[u8], offsets: &[u16], lengths: &[u8], arena: &[u8]) -> Su
     let mut top = 0;
     let mut i = 0;
     while i < marks.len() {
-        let state = marks[i];
-        if state == 1 {
-            let len = len_at(lengths, i) as usize;
-            used += len;
-            top = higher_end((offsets[i] as usize) + len, top);
-        } else if 2 < state {
-            return Surveyed::Damaged;
+        match Mark::try_from(marks[i])? {
+            Mark::Live => {
+                let len = len_at(lengths, i) as usize;
+                used += len;
+                top = higher_end((offsets[i] as usize) + len, top);
+            }
+            Mark::Never | Mark::Freed => {}
         }
         i += 1;
     }
-    if arena.len() < used {
-        return Surveyed::Damaged;
+    if arena.len() < used || used < top {
+        return Err(Refusal::Damaged);
     }
-    if used < top {
-        return Surveyed::Damaged;
-    }
-    Surveyed::Used(used)
+    Ok(used)
 }
 
 // What a storing call makes of its path: an absent key needs a free slot, and its bytes beside the `used` ones.
-fn insert_plan_by(found: Probed, used: usize, size: usize, length: usize) -> InsertPlan
+#[tactic(auto, unfolding(crate::specs::Planning::insert_plan_by))]
+fn insert_plan_by(
+    found: Result<Probed, Refusal>,
+    used: usize,
+    size: usize,
+    length: usize,
+) -> Result<InsertPlan, Refusal>
     requires { used ≤ size }
     ensures { result ≡ insert_plan_by used (leb length (size - used)) found }
 {
-    match found {
-        Probed::Hit(slot, examined) => InsertPlan::Hit(slot, examined),
-        Probed::Free(slot, examined) => {
-            if length <= size - used {
-                return InsertPlan::Free(slot, examined, used);
-            }
-            InsertPlan::Refused(Refusal::NoBytes)
-        }
-        Probed::Full(_) => InsertPlan::Refused(Refusal::NoSlot),
-        Probed::Refused(refusal) => InsertPlan::Refused(refusal),
+    match found? {
+        Probed::Hit(slot, examined) => Ok(InsertPlan::Hit(slot, examined)),
+        Probed::Free(slot, examined) if length <= size - used => Ok(InsertPlan::Free(
+            slot, examined, used,
+        )),
+        Probed::Free(..) => Err(Refusal::NoBytes),
+        Probed::Full(_) => Err(Refusal::NoSlot),
     }
 }
 
 // The plan of a call that stores a key that may be stored, in a table of right sizes: damage, then what its path says.
-fn plan_kept(marks: &[u8], offsets: &[u16], lengths: &[u8], arena: &[u8], key: &[u8]) -> InsertPlan
+#[tactic(auto, unfolding(crate::specs::Planning::planning_kept, crate::specs::Planning::room_for, crate::specs::Probing::path_of, crate::specs::Surveying::surveying))]
+fn plan_kept(
+    marks: &[u8],
+    offsets: &[u16],
+    lengths: &[u8],
+    arena: &[u8],
+    key: &[u8],
+) -> Result<InsertPlan, Refusal>
     requires { fitting (spans_now marks.now offsets.now lengths.now arena.now) ≡ true }
     ensures { result ≡ planning_kept (spans_before marks.now offsets.now lengths.now arena.now) key.now }
 {
-    let found = survey(marks, offsets, lengths, arena);
-    match found {
-        Surveyed::Used(used) => {
-            let home = slot_of_key(key, marks.len() as u64, 0) as usize;
-            let path = walk_path(marks, offsets, lengths, arena, key, home);
-            return insert_plan_by(path, used, arena.len(), key.len());
-        }
-        Surveyed::Damaged => return InsertPlan::Refused(Refusal::Damaged),
-    }
+    let used = survey(marks, offsets, lengths, arena)?;
+    let home = slot_of_key(key, marks.len() as u64, 0) as usize;
+    let found = walk_path(marks, offsets, lengths, arena, key, home);
+    insert_plan_by(found, used, arena.len(), key.len())
 }
 
 // The plan of a call that stores a key: its tests in order, then what its path says.
+#[tactic(auto, unfolding(crate::specs::Planning::planning_insert, crate::specs::Planning::kept_plan))]
 pub fn plan_insert(
     marks: &[u8],
     offsets: &[u16],
     lengths: &[u8],
     arena: &[u8],
     key: &[u8],
-) -> InsertPlan
+) -> Result<InsertPlan, Refusal>
     ensures { result ≡ planning_insert (spans_before marks.now offsets.now lengths.now arena.now) key.now }
 {
-    if fits(marks, offsets, lengths, arena) {
-        let kept = may_keep(key);
-        match kept {
-            Kept::Fine => return plan_kept(marks, offsets, lengths, arena, key),
-            Kept::Refused(why) => return InsertPlan::Refused(why),
-        }
+    if !fits(marks, offsets, lengths, arena) {
+        return Err(Refusal::Sizes);
     }
-    InsertPlan::Refused(Refusal::Sizes)
+    may_keep(key)?;
+    plan_kept(marks, offsets, lengths, arena, key)
 }
 
 // What remove makes of its path.
-fn remove_plan_by(found: Probed, used: usize) -> RemovePlan
+#[tactic(auto, unfolding(crate::specs::Planning::remove_plan_by))]
+fn remove_plan_by(found: Result<Probed, Refusal>, used: usize) -> Result<RemovePlan, Refusal>
     ensures { result ≡ remove_plan_by used found }
 {
-    match found {
-        Probed::Hit(slot, examined) => RemovePlan::Hit(slot, examined, used),
-        Probed::Free(_, examined) => RemovePlan::Absent(examined),
-        Probed::Full(examined) => RemovePlan::Absent(examined),
-        Probed::Refused(refusal) => RemovePlan::Refused(refusal),
+    match found? {
+        Probed::Hit(slot, examined) => Ok(RemovePlan::Hit(slot, examined, used)),
+        Probed::Free(_, examined) | Probed::Full(examined) => Ok(RemovePlan::Absent(examined)),
     }
 }
 
 // The plan of remove: its tests in order, then what its path says.
+#[tactic(auto, unfolding(crate::specs::Planning::planning_remove, crate::specs::Probing::path_of, crate::specs::Surveying::surveying))]
 pub fn plan_remove(
     marks: &[u8],
     offsets: &[u16],
     lengths: &[u8],
     arena: &[u8],
     key: &[u8],
-) -> RemovePlan
+) -> Result<RemovePlan, Refusal>
     ensures { result ≡ planning_remove (spans_before marks.now offsets.now lengths.now arena.now) key.now }
 {
-    if fits(marks, offsets, lengths, arena) {
-        if may_ask(key) {
-            let found = survey(marks, offsets, lengths, arena);
-            match found {
-                Surveyed::Used(used) => {
-                    let home = slot_of_key(key, marks.len() as u64, 0) as usize;
-                    let path = walk_path(marks, offsets, lengths, arena, key, home);
-                    return remove_plan_by(path, used);
-                }
-                Surveyed::Damaged => return RemovePlan::Refused(Refusal::Damaged),
-            }
-        }
-        return RemovePlan::Refused(Refusal::LongKey);
+    if !fits(marks, offsets, lengths, arena) {
+        return Err(Refusal::Sizes);
     }
-    RemovePlan::Refused(Refusal::Sizes)
+    if !may_ask(key) {
+        return Err(Refusal::LongKey);
+    }
+    let used = survey(marks, offsets, lengths, arena)?;
+    let home = slot_of_key(key, marks.len() as u64, 0) as usize;
+    let found = walk_path(marks, offsets, lengths, arena, key, home);
+    remove_plan_by(found, used)
 }
 
 // Whether the lent arrays may be a map: those of the keys, and as many values.
+#[tactic(auto, unfolding(kinds::specs::Calls::sized_of))]
 pub fn map_fits(marks: &[u8], offsets: &[u16], lengths: &[u8], values: &[u64], arena: &[u8]) -> bool
     ensures { result ≡ sized_of maps (before marks.now offsets.now lengths.now values.now arena.now) }
 {
-    if fits(marks, offsets, lengths, arena) {
-        return marks.len() == values.len();
-    }
-    false
+    fits(marks, offsets, lengths, arena) && marks.len() == values.len()
 }
 
 // The probing of a key in a map: refusal 1, then what the probing answers.
+#[tactic(auto, unfolding(crate::specs::Seeking::where_long, crate::specs::Seeking::probing_map))]
 pub fn map_probe(
     marks: &[u8],
     offsets: &[u16],
@@ -485,16 +453,17 @@ pub fn map_probe(
     values: &[u64],
     arena: &[u8],
     key: &[u8],
-) -> Probed
+) -> Result<Probed, Refusal>
     ensures { result ≡ probing_map (before marks.now offsets.now lengths.now values.now arena.now) key.now }
 {
-    if marks.len() == values.len() {
-        return probe(marks, offsets, lengths, arena, key);
+    if marks.len() != values.len() {
+        return Err(Refusal::Sizes);
     }
-    Probed::Refused(Refusal::Sizes)
+    probe(marks, offsets, lengths, arena, key)
 }
 
 // The plan of insert in a map: refusal 1, then what the plan answers.
+#[tactic(auto, unfolding(crate::specs::Seeking::where_long, crate::specs::Planning::planning_map_insert))]
 pub fn map_plan_insert(
     marks: &[u8],
     offsets: &[u16],
@@ -502,16 +471,17 @@ pub fn map_plan_insert(
     values: &[u64],
     arena: &[u8],
     key: &[u8],
-) -> InsertPlan
+) -> Result<InsertPlan, Refusal>
     ensures { result ≡ planning_map_insert (before marks.now offsets.now lengths.now values.now arena.now) key.now }
 {
-    if marks.len() == values.len() {
-        return plan_insert(marks, offsets, lengths, arena, key);
+    if marks.len() != values.len() {
+        return Err(Refusal::Sizes);
     }
-    InsertPlan::Refused(Refusal::Sizes)
+    plan_insert(marks, offsets, lengths, arena, key)
 }
 
 // The plan of remove in a map: refusal 1, then what the plan answers.
+#[tactic(auto, unfolding(crate::specs::Seeking::where_long, crate::specs::Planning::planning_map_remove))]
 pub fn map_plan_remove(
     marks: &[u8],
     offsets: &[u16],
@@ -519,16 +489,17 @@ pub fn map_plan_remove(
     values: &[u64],
     arena: &[u8],
     key: &[u8],
-) -> RemovePlan
+) -> Result<RemovePlan, Refusal>
     ensures { result ≡ planning_map_remove (before marks.now offsets.now lengths.now values.now arena.now) key.now }
 {
-    if marks.len() == values.len() {
-        return plan_remove(marks, offsets, lengths, arena, key);
+    if marks.len() != values.len() {
+        return Err(Refusal::Sizes);
     }
-    RemovePlan::Refused(Refusal::Sizes)
+    plan_remove(marks, offsets, lengths, arena, key)
 }
 
 // What a step of a walk of a set comes upon: its tests in order, then the first live slot within its reach.
+#[tactic(auto, unfolding(crate::specs::Steps::ahead_in, crate::specs::Scanning::nexting, kinds::specs::Stepping::ahead_of, kinds::specs::Stepping::ahead_on))]
 pub fn ahead(
     marks: &[u8],
     offsets: &[u16],
@@ -536,24 +507,20 @@ pub fn ahead(
     arena: &[u8],
     at: usize,
     budget: u64,
-) -> Ahead
+) -> Result<Ahead, Refusal>
     ensures { result ≡ set_ahead (spans_before marks.now offsets.now lengths.now arena.now) at budget }
 {
-    if fits(marks, offsets, lengths, arena) {
-        let stretch = way(marks.len(), at, budget);
-        match stretch {
-            Stretch::Upto(end) => {
-                let next = next_live(marks, offsets, lengths, arena, at, end);
-                return ahead_by(next, end);
-            }
-            Stretch::Done => return Ahead::Done,
-            Stretch::Refused(why) => return Ahead::Refused(why),
-        }
+    if !fits(marks, offsets, lengths, arena) {
+        return Err(Refusal::Sizes);
     }
-    Ahead::Refused(Refusal::Sizes)
+    match way(marks.len(), at, budget)? {
+        Some(end) => ahead_by(next_live(marks, offsets, lengths, arena, at, end), end),
+        None => Ok(Ahead::Done),
+    }
 }
 
 // The same of a map: refusal 1 where the values do not fit, else by the arrays of the keys.
+#[tactic(auto, unfolding(crate::specs::Steps::ahead_in, kinds::specs::Stepping::ahead_of))]
 pub fn map_ahead(
     marks: &[u8],
     offsets: &[u16],
@@ -562,11 +529,11 @@ pub fn map_ahead(
     arena: &[u8],
     at: usize,
     budget: u64,
-) -> Ahead
+) -> Result<Ahead, Refusal>
     ensures { result ≡ map_ahead (spans_before marks.now offsets.now lengths.now arena.now) values.now at budget }
 {
-    if marks.len() == values.len() {
-        return ahead(marks, offsets, lengths, arena, at, budget);
+    if marks.len() != values.len() {
+        return Err(Refusal::Sizes);
     }
-    Ahead::Refused(Refusal::Sizes)
+    ahead(marks, offsets, lengths, arena, at, budget)
 }

@@ -1,4 +1,5 @@
 -- The laws of the insert rule in byte tables.
+pub mod Marks
 pub mod Rooms
 pub mod Storing
 pub mod Turns

@@ -1,9 +1,6 @@
 -- What stands beside keys takes no room: a table with a column has room where its keys alone have.
-use Prim.Native.Nat.{ℕ, zero, suc}
-use mathlib.Core.Bool.{cond}
-use mathlib.Core.List.{List, [], ◌∷◌, ◌++◌}
-use mathlib.Core.Path.{◌≡◌, refl, sym, ◌∙◌, ap, fun_ext}
-use lib.ListN.{length}
+use Rattle.std.proofs.Common.{ℕ, zero, suc, cond, List, [], ◌∷◌, ◌++◌, ◌≡◌, refl, sym, ◌∙◌, ap, length}
+use mathlib.Core.Path.{fun_ext}
 use Rattle.model.specs.Slots.{pair_of, pairs}
 use Rattle.model.specs.Finite.{firsts}
 use Rattle.model.specs.Calls.{lacking}

@@ -1,11 +1,5 @@
 -- The insert rule for the right's slots, one by one.
-use Prim.Native.Nat.{ℕ, zero, suc, ◌+◌, ◌-◌, ◌≤◌, ◌<◌}
-use mathlib.Core.Bool.{true}
-use mathlib.Core.List.{List, [], ◌∷◌, ◌++◌, append_assoc, append-nil}
-use mathlib.Core.Path.{◌≡◌, refl, sym, ◌∙◌, ap}
-use native.Mathlib.Numerals.{add-one}
-use native.Mathlib.Omega.{arith}
-use lib.ListN.{length, get_or}
+use Rattle.std.proofs.Common.{ℕ, zero, suc, ◌+◌, ◌-◌, ◌≤◌, ◌<◌, true, List, [], ◌∷◌, ◌++◌, append_assoc, append-nil, ◌≡◌, refl, sym, ◌∙◌, ap, add-one, arith, length, get_or, Result, Ok}
 use Rattle.model.specs.Slots.{Slot, never, freed, damaged, live, pair_of, pairs}
 use Rattle.model.specs.Finite.{mass, firsts}
 use Rattle.model.specs.Store.{path}
@@ -14,7 +8,10 @@ use Rattle.model.specs.Running.{Roomy}
 use Rattle.model.proofs.Running.{one_more}
 use Rattle.digest.specs.Home.{key_limit}
 use Rattle.kinds.specs.Columns.{Column, values, nothing}
-use Rattle.kinds.specs.Marks.{cell}
+use Rattle.answers.specs.declared.Refusal.{Refusal}
+use Rattle.kinds.specs.declared.Mark.{Mark}
+use Rattle.kinds.specs.declared.Mark.TheVariants.{Live}
+use Rattle.kinds.specs.Marks.{cell, mark_read}
 use Rattle.kinds.specs.Stores.{slot_in, slot_stored, all_stored}
 use Rattle.kinds.proofs.Uniting as uniting
 use Rattle.kinds.proofs.Uniting.{stored_none, stored_last}
@@ -25,6 +22,7 @@ use Rattle.byte_slots.proofs.Marks.{slot_cell}
 use Rattle.byte_slots.proofs.Sizes.{fitting_says}
 use Rattle.byte_arena.specs.Needs.{Aligned}
 use Rattle.byte_store.specs.Stores.{Ready, Storable, pair_at, pairs_of}
+use Rattle.byte_store.proofs.Marks.{mark_live, mark_idle}
 use Rattle.byte_store.proofs.Storing.{steady, rule_keys}
 
 -- one of the slots of a table of right sizes
@@ -32,25 +30,25 @@ pub slot_aligned : (s : Spans) {i : ℕ} → fitting s ≡ true → i < length s
 slot_aligned s f l = let z = fitting_says s f in record { slot = l; offsets = z.offsets; lengths = z.lengths }
 
 -- a live slot's key may be stored
-module _ (s : Spans) (i : ℕ) {m : ℕ} (p : m ≡ mark_of s i) (one : m ≡ 1) {k : List ℕ} (e : (k ≡ part s.arena (get_or s.offsets i 0) (get_or s.lengths i 0)) × (length k ≤ key_limit)) where
+module _ (s : Spans) (i : ℕ) {x : Result Mark Refusal} (p : x ≡ mark_read (mark_of s i)) (one : x ≡ Ok Live) {k : List ℕ} (e : (k ≡ part s.arena (get_or s.offsets i 0) (get_or s.lengths i 0)) × (length k ≤ key_limit)) where
   live_pair : pair_at s i ≡ (k, tt) ∷ []
   unfolding pair_at pair_of cell key_at
-  live_pair = rw (slot_cell s (λ j. tt {0}) i, sym p ∙ one, e.0)
+  live_pair = rw (slot_cell s (λ j. tt {0}) i, mark_live s i p one, e.0)
 
   pub live_storable : {l : Spans} {u : ℕ} → Ready l u (pair_at s i) → Storable l u k
   live_storable y = record { ready = rw live_pair at y; short = e.1 }
 
 module _ {W : Type 0} (C : Column W) where
-  module _ (l r : ByteMemory C) (i : ℕ) {m : ℕ} (p : m ≡ mark_of r.spans i) where
+  module _ (l r : ByteMemory C) (i : ℕ) {x : Result Mark Refusal} (p : x ≡ mark_read (mark_of r.spans i)) where
     -- and is, by the rule
-    pub slot_live : {k : List ℕ} {t : ByteMemory C} → m ≡ 1 → k ≡ part r.spans.arena (get_or r.spans.offsets i 0) (get_or r.spans.lengths i 0) → t ≡ rule (byte_store C) l k (C.read r.words i) → t ≡ slot_stored (byte_store C) l (slot_in (byte_store C) r i)
+    pub slot_live : {k : List ℕ} {t : ByteMemory C} → x ≡ Ok Live → k ≡ part r.spans.arena (get_or r.spans.offsets i 0) (get_or r.spans.lengths i 0) → t ≡ rule (byte_store C) l k (C.read r.words i) → t ≡ slot_stored (byte_store C) l (slot_in (byte_store C) r i)
     unfolding slot_in key_at
-    slot_live one q e = rw (slot_cell r.spans (C.read r.words) i) (uniting.slot_live (byte_store C) l (mark_of r.spans i) (key_at r.spans i) (C.read r.words i) (sym p ∙ one) (rw q at e))
+    slot_live one q e = rw (slot_cell r.spans (C.read r.words) i) (uniting.slot_live (byte_store C) l (mark_of r.spans i) (key_at r.spans i) (C.read r.words i) (mark_live r.spans i p one) (rw q at e))
 
     -- another slot stores nothing
-    pub slot_idle : (m ≡ 1 → ⊥) → l ≡ slot_stored (byte_store C) l (slot_in (byte_store C) r i)
+    pub slot_idle : (x ≡ Ok Live → ⊥) → l ≡ slot_stored (byte_store C) l (slot_in (byte_store C) r i)
     unfolding slot_in
-    slot_idle h = rw (slot_cell r.spans (C.read r.words) i) (uniting.slot_idle (byte_store C) l (mark_of r.spans i) (key_at r.spans i) (C.read r.words i) (λ e. h (p ∙ e)))
+    slot_idle h = rw (slot_cell r.spans (C.read r.words) i) (uniting.slot_idle (byte_store C) l (mark_of r.spans i) (key_at r.spans i) (C.read r.words i) (mark_idle r.spans i p h))
 
   -- the keys change as a set's
   cell_keys : (m : ByteMemory C) (mark : ℕ) (k : List ℕ) (v : W) → as_set (store_all (byte_store C) m (pair_of (cell mark k v))).spans ≡ store_all sets (as_set m.spans) (pair_of (cell mark k tt))
@@ -139,9 +137,6 @@ module _ {W : Type 0} {C : Column W} {l r m : ByteMemory C} {u i : ℕ} (w : Tur
       used = d;
     };
   }
-
-  pub turn_end : length r.spans.marks ≤ i → m ≡ all_stored (byte_store C) l r (length r.spans.marks)
-  turn_end b = let e : length r.spans.marks ≡ i = omega arith in rw e w.is
 
 -- a map's values keep their length too
 pub words_more : {l r m n : ByteMemory values} {u a i : ℕ} → Turning values l r m u i → (n ≡ slot_stored maps m (slot_in maps r i)) × (a ≡ used_of n.spans) → length n.words ≡ length m.words → length m.words ≡ length l.words → length n.words ≡ length l.words

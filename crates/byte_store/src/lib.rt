@@ -15,10 +15,10 @@ ghost use Rattle.byte_store.specs.Stores.{Ready, Storable, pair_at, pairs_of};
 
 use byte_arena::fill;
 use byte_slots::{key_at, mark_at, probe};
-use kinds::Probed;
+use kinds::{Mark, Probed};
 
 // Where the insert rule left a key: its slot, S where none was free; and the bytes used then.
-#[derive(Drop)]
+#[derive(Clone, Copy, Debug, PartialEq, Eq)]
 pub struct Placed {
     pub slot: usize,
     pub used: usize,
@@ -36,7 +36,12 @@ pub fn store(
     requires { Storable (spans_now marks.old offsets.old lengths.old arena.old) used key.now }
     ensures { (set_after marks.new offsets.new lengths.new arena.new ≡ rule sets (set_before marks.old offsets.old lengths.old arena.old) key.now tt) × (result.slot ≡ slot_by (length marks.old) (probing (spans_before marks.old offsets.old lengths.old arena.old) key.now)) × (result.used ≡ used_of (spans_after marks.new offsets.new lengths.new arena.new)) }
 {
-    let seen = probe(marks, offsets, lengths, arena, key);
+    let Ok(seen) = probe(marks, offsets, lengths, arena, key) else {
+        return Placed {
+            slot: marks.len(),
+            used,
+        };
+    };
     match seen {
         Probed::Hit(slot, _) => Placed { slot, used },
         Probed::Free(slot, _) => {
@@ -47,10 +52,6 @@ pub fn store(
             }
         }
         Probed::Full(_) => Placed {
-            slot: marks.len(),
-            used,
-        },
-        Probed::Refused(_) => Placed {
             slot: marks.len(),
             used,
         },
@@ -73,12 +74,16 @@ pub fn store_slot(
     requires { Ready (spans_now marks.old offsets.old lengths.old arena.old) used (pair_at (spans_now right_marks.now right_offsets.now right_lengths.now right_arena.now) i) × Aligned (spans_now right_marks.now right_offsets.now right_lengths.now right_arena.now) i }
     ensures { (set_after marks.new offsets.new lengths.new arena.new ≡ slot_stored sets (set_before marks.old offsets.old lengths.old arena.old) (slot_in sets (set_before right_marks.now right_offsets.now right_lengths.now right_arena.now) i)) × (result ≡ used_of (spans_after marks.new offsets.new lengths.new arena.new)) }
 {
-    if mark_at(right_marks, right_offsets, right_lengths, right_arena, i) == 1 {
-        let key = key_at(right_offsets, right_lengths, right_arena, i);
-        let placed = store(marks, offsets, lengths, arena, key, used);
-        return placed.used;
+    let Ok(mark) = mark_at(right_marks, right_offsets, right_lengths, right_arena, i) else {
+        return used;
+    };
+    match mark {
+        Mark::Live => {
+            let key = key_at(right_offsets, right_lengths, right_arena, i);
+            store(marks, offsets, lengths, arena, key, used).used
+        }
+        Mark::Never | Mark::Freed => used,
     }
-    used
 }
 
 // The right's keys go in by the insert rule, in its slot order.
@@ -97,8 +102,7 @@ pub fn store_all(
     ensures { set_after marks.new offsets.new lengths.new arena.new ≡ all_stored sets (set_before marks.old offsets.old lengths.old arena.old) (set_before right_marks.now right_offsets.now right_lengths.now right_arena.now) (length right_marks.now) }
 {
     let mut end = used;
-    let mut i = 0;
-    while i < right_marks.len() {
+    for i in 0..right_marks.len() {
         end = store_slot(
             marks,
             offsets,
@@ -111,7 +115,6 @@ pub fn store_all(
             i,
             end,
         );
-        i += 1;
     }
 }
 
@@ -129,12 +132,11 @@ pub fn map_store(
     requires { Storable (spans_now marks.old offsets.old lengths.old arena.old) used key.now × (length values.old ≡ length marks.old) }
     ensures { (after marks.new offsets.new lengths.new values.new arena.new ≡ rule maps (before marks.old offsets.old lengths.old values.old arena.old) key.now value) × (result ≡ used_of (spans_after marks.new offsets.new lengths.new arena.new)) }
 {
-    let placed = store(marks, offsets, lengths, arena, key, used);
-    let slot = placed.slot;
+    let Placed { slot, used } = store(marks, offsets, lengths, arena, key, used);
     if slot < values.len() {
         values[slot] = value;
     }
-    placed.used
+    used
 }
 
 // The same for slot i of another map, where it is live.
@@ -155,12 +157,17 @@ pub fn map_store_slot(
     requires { Ready (spans_now marks.old offsets.old lengths.old arena.old) used (pair_at (spans_now right_marks.now right_offsets.now right_lengths.now right_arena.now) i) × Aligned (spans_now right_marks.now right_offsets.now right_lengths.now right_arena.now) i × (i < length right_values.now) × (length values.old ≡ length marks.old) }
     ensures { (after marks.new offsets.new lengths.new values.new arena.new ≡ slot_stored maps (before marks.old offsets.old lengths.old values.old arena.old) (slot_in maps (before right_marks.now right_offsets.now right_lengths.now right_values.now right_arena.now) i)) × (result ≡ used_of (spans_after marks.new offsets.new lengths.new arena.new)) }
 {
-    if mark_at(right_marks, right_offsets, right_lengths, right_arena, i) == 1 {
-        let key = key_at(right_offsets, right_lengths, right_arena, i);
-        let value = right_values[i];
-        return map_store(marks, offsets, lengths, values, arena, key, value, used);
+    let Ok(mark) = mark_at(right_marks, right_offsets, right_lengths, right_arena, i) else {
+        return used;
+    };
+    match mark {
+        Mark::Live => {
+            let key = key_at(right_offsets, right_lengths, right_arena, i);
+            let value = right_values[i];
+            map_store(marks, offsets, lengths, values, arena, key, value, used)
+        }
+        Mark::Never | Mark::Freed => used,
     }
-    used
 }
 
 // The right's pairs go into a map by the insert rule, in the right's slot order.
@@ -181,8 +188,7 @@ pub fn map_store_all(
     ensures { after marks.new offsets.new lengths.new values.new arena.new ≡ all_stored maps (before marks.old offsets.old lengths.old values.old arena.old) (before right_marks.now right_offsets.now right_lengths.now right_values.now right_arena.now) (length right_marks.now) }
 {
     let mut end = used;
-    let mut i = 0;
-    while i < right_marks.len() {
+    for i in 0..right_marks.len() {
         end = map_store_slot(
             marks,
             offsets,
@@ -197,6 +203,5 @@ pub fn map_store_all(
             i,
             end,
         );
-        i += 1;
     }
 }

@@ -4,8 +4,8 @@ use Rattle.std.proofs.Common.{◌≡◌, ℕ, ◌<◌, ◌≤◌, true, false, �
 use borrow.Author.Tests.{lt-leb}
 use Rattle.lists.proofs.Tests.{at_most}
 use Rattle.answers.specs.declared.Refusal.TheVariants.{Sizes, LongKey}
-use Rattle.answers.specs.declared.Homed.TheVariants.{At, Refused}
 use Rattle.digest.specs.Home.{slots_fit, key_limit, home_of, home_of_word, homed_of, homed_of_word}
+use Rattle.std.specs.Prelude.{Ok, Err}
 
 -- A slot count that the paper allows.
 abbrev pub Fit : ℕ → Type 0
@@ -34,17 +34,17 @@ never e = let z : ⊥ = omega arith in absurd z
 
 module _ (start slots : ℕ) (bytes : List ℕ) where
   -- A slot count that does not fit: refusal 1.
-  pub home_unfit : slots_fit slots ≡ false → homed_of start slots bytes ≡ Refused Sizes
+  pub home_unfit : slots_fit slots ≡ false → homed_of start slots bytes ≡ Err Sizes
   unfolding homed_of
   home_unfit u = rw u
 
   -- One that fits, and a key above the key limit: refusal 2.
-  pub home_long : slots_fit slots ≡ true → key_limit < length bytes → homed_of start slots bytes ≡ Refused LongKey
+  pub home_long : slots_fit slots ≡ true → key_limit < length bytes → homed_of start slots bytes ≡ Err LongKey
   unfolding homed_of
   home_long f l = rw (f, lt-leb (length bytes) key_limit l)
 
   -- One that fits, and a key within it: the home slot.
-  pub home_fit : slots_fit slots ≡ true → length bytes ≤ key_limit → homed_of start slots bytes ≡ At (home_of start slots bytes)
+  pub home_fit : slots_fit slots ≡ true → length bytes ≤ key_limit → homed_of start slots bytes ≡ Ok (home_of start slots bytes)
   unfolding homed_of
   home_fit f l = rw (f, le-leb (length bytes) key_limit l)
 
@@ -52,21 +52,21 @@ module _ (start slots : ℕ) (bytes : List ℕ) where
   cases P f g h = ⊎_elim (λ k. ⊎_elim (h k) (g k) (at_most (length bytes) key_limit)) f (slots_cases slots)
 
   -- A byte key is refused 1 exactly when the slot count is 0 or above 4,096.
-  pub home_refused_1 : (homed_of start slots bytes ≡ Refused Sizes) ↔ Unfit slots
+  pub home_refused_1 : (homed_of start slots bytes ≡ Err Sizes) ↔ Unfit slots
   home_refused_1 = (
     λ e. cases (Unfit slots) (λ u. u) (λ f l. never (cc (home_long (slots_fit_law slots f) l))) (λ f l. never (cc (home_fit (slots_fit_law slots f) l))),
     λ u. home_unfit (slots_unfit slots u),
   )
 
   -- It is refused 2 exactly when the slot count is right and the key is above the key limit.
-  pub home_refused_2 : (homed_of start slots bytes ≡ Refused LongKey) ↔ (Fit slots × key_limit < length bytes)
+  pub home_refused_2 : (homed_of start slots bytes ≡ Err LongKey) ↔ (Fit slots × key_limit < length bytes)
   home_refused_2 = (
     λ e. cases (Fit slots × key_limit < length bytes) (λ u. never (cc (home_unfit (slots_unfit slots u)))) (λ f l. (f, l)) (λ f l. never (cc (home_fit (slots_fit_law slots f) l))),
     λ (f, l). home_long (slots_fit_law slots f) l,
   )
 
   -- Else, and only then, it has its home slot for answer.
-  pub home_answered : (homed_of start slots bytes ≡ At (home_of start slots bytes)) ↔ (Fit slots × length bytes ≤ key_limit)
+  pub home_answered : (homed_of start slots bytes ≡ Ok (home_of start slots bytes)) ↔ (Fit slots × length bytes ≤ key_limit)
   home_answered = (
     λ e. cases (Fit slots × length bytes ≤ key_limit) (λ u. never (cc (home_unfit (slots_unfit slots u)))) (λ f l. never (cc (home_long (slots_fit_law slots f) l))) (λ f l. (f, l)),
     λ (f, l). home_fit (slots_fit_law slots f) l,
@@ -74,19 +74,19 @@ module _ (start slots : ℕ) (bytes : List ℕ) where
 
 module _ (start slots x : ℕ) where
   -- A slot count that does not fit: refusal 1.
-  pub word_unfit : slots_fit slots ≡ false → homed_of_word start slots x ≡ Refused Sizes
+  pub word_unfit : slots_fit slots ≡ false → homed_of_word start slots x ≡ Err Sizes
   unfolding homed_of_word
   word_unfit u = rw u
 
   -- One that fits: the home slot.
-  pub word_fit : slots_fit slots ≡ true → homed_of_word start slots x ≡ At (home_of_word start slots x)
+  pub word_fit : slots_fit slots ≡ true → homed_of_word start slots x ≡ Ok (home_of_word start slots x)
   unfolding homed_of_word
   word_fit f = rw f
 
   -- A u64 key is refused 1 exactly when the slot count is 0 or above 4,096.
-  pub home_word_refused_1 : (homed_of_word start slots x ≡ Refused Sizes) ↔ Unfit slots
+  pub home_word_refused_1 : (homed_of_word start slots x ≡ Err Sizes) ↔ Unfit slots
   home_word_refused_1 = (λ e. ⊎_elim (λ f. never (cc (word_fit (slots_fit_law slots f)))) (λ u. u) (slots_cases slots), λ u. word_unfit (slots_unfit slots u))
 
   -- Else, and only then, it has its home slot for answer.
-  pub home_word_answered : (homed_of_word start slots x ≡ At (home_of_word start slots x)) ↔ Fit slots
+  pub home_word_answered : (homed_of_word start slots x ≡ Ok (home_of_word start slots x)) ↔ Fit slots
   home_word_answered = (λ e. ⊎_elim (λ f. f) (λ u. never (cc (word_unfit (slots_unfit slots u)))) (slots_cases slots), λ f. word_fit (slots_fit_law slots f))

@@ -1,9 +1,10 @@
 -- Each contract settles its answer: two results that it allows are equal.
 -- Assumes nothing.
 use Rattle.std.proofs.Common.{◌≡◌, ℕ, Bool, List, sym, ◌∙◌}
-use Rattle.answers.specs.declared.Homed.{Homed}
 use Rattle.digest.specs.Digest.{more_of, digest_of, key_digest, word_of}
 use Rattle.digest.specs.Home.{slot_of, home_of, home_of_word, slots_fit, homed_of, homed_of_word}
+use Rattle.std.specs.Prelude.{Result}
+use Rattle.answers.specs.declared.Refusal.{Refusal}
 
 settled : {A : Type 0} {r s d : A} → r ≡ d → s ≡ d → r ≡ s
 settled p q = p ∙ sym q
@@ -42,11 +43,11 @@ pub slots_fit_settled : (slots : ℕ) (r s : Bool) → r ≡ slots_fit slots →
 slots_fit_settled slots r s = settled
 
 -- `home`.
-pub home_settled : (start slots : ℕ) (bytes : List ℕ) (r s : Homed)
+pub home_settled : (start slots : ℕ) (bytes : List ℕ) (r s : Result ℕ Refusal)
     → r ≡ homed_of start slots bytes → s ≡ homed_of start slots bytes → r ≡ s
 home_settled start slots bytes r s = settled
 
 -- `home_word`.
-pub home_word_settled : (start slots x : ℕ) (r s : Homed)
+pub home_word_settled : (start slots x : ℕ) (r s : Result ℕ Refusal)
     → r ≡ homed_of_word start slots x → s ≡ homed_of_word start slots x → r ≡ s
 home_word_settled start slots x r s = settled

@@ -2,9 +2,9 @@
 -- Assumes nothing.
 use Rattle.std.specs.Prelude.{ℕ, ◌%◌, Bool, cond, ◌&&◌, List, length, nat_le, nat_lt}
 use Rattle.answers.specs.declared.Refusal.TheVariants.{Sizes, LongKey}
-use Rattle.answers.specs.declared.Homed.{Homed}
-use Rattle.answers.specs.declared.Homed.TheVariants.{At, Refused}
 use Rattle.digest.specs.Digest.{key_digest, word_of}
+use Rattle.std.specs.Prelude.{Result, Ok, Err}
+use Rattle.answers.specs.declared.Refusal.{Refusal}
 
 -- The most slots that a table has.
 abbrev pub slot_limit : ℕ
@@ -35,12 +35,12 @@ abbrev pub key_fits : ℕ → Bool
 key_fits size = nat_le size key_limit
 
 -- What is answered for a byte key: first refusal 1, then refusal 2, else the slot.
-unfoldable pub homed_of : ℕ → ℕ → List ℕ → Homed
+unfoldable pub homed_of : ℕ → ℕ → List ℕ → Result ℕ Refusal
 homed_of start slots bytes =
     cond (slots_fit slots)
-    (cond (key_fits (length bytes)) (At (home_of start slots bytes)) (Refused LongKey))
-    (Refused Sizes)
+    (cond (key_fits (length bytes)) (Ok (home_of start slots bytes)) (Err LongKey))
+    (Err Sizes)
 
 -- What is answered for a u64 key: refusal 1, else the slot.
-unfoldable pub homed_of_word : ℕ → ℕ → ℕ → Homed
-homed_of_word start slots x = cond (slots_fit slots) (At (home_of_word start slots x)) (Refused Sizes)
+unfoldable pub homed_of_word : ℕ → ℕ → ℕ → Result ℕ Refusal
+homed_of_word start slots x = cond (slots_fit slots) (Ok (home_of_word start slots x)) (Err Sizes)

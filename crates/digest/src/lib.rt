@@ -5,7 +5,7 @@ ghost use Rattle.std.specs.Prelude.{◌≡◌, ◌*◌, ◌%◌, ◌^◌};
 ghost use Rattle.digest.specs.Digest.{mix_of, more_of, digest_of, key_digest, word_of};
 ghost use Rattle.digest.specs.Home.{slot_of, home_of, home_of_word, slots_fit, homed_of, homed_of_word};
 
-use answers::{Homed, Refusal};
+use answers::Refusal;
 use std::num::wrapping_add_u64;
 
 // The published start of a digest.
@@ -35,14 +35,13 @@ fn mix(h: u64, b: u8) -> u64
 }
 
 // The running state after these bytes.
+#[tactic(auto, using(crate::proofs::Steps::byte_turn, crate::proofs::Steps::byte_end))]
 pub fn digest_more(state: u64, bytes: &[u8]) -> u64
     ensures { result ≡ more_of state bytes.now }
 {
     let mut h = state;
-    let mut i = 0;
-    while i < bytes.len() {
-        h = mix(h, bytes[i]);
-        i += 1;
+    for b in bytes {
+        h = mix(h, *b);
     }
     h
 }
@@ -62,18 +61,12 @@ pub fn digest_key(start: u64, bytes: &[u8]) -> u64
 }
 
 // The digest of a u64 key, as its 8 bytes, low byte first, in a table with this start number.
+#[tactic(auto, using(crate::proofs::Steps::eight_is))]
 pub fn digest_word(start: u64, x: u64) -> u64
     ensures { result ≡ word_of start x }
 {
-    let mut h = start ^ PUBLISHED;
-    let mut rest = x;
-    let mut left: u64 = 8;
-    while 0 < left {
-        h = mix(h, (rest % 256) as u8);
-        rest = rest / 256;
-        left -= 1;
-    }
-    h
+    let bytes = x.to_le_bytes();
+    digest_key(start, &bytes)
 }
 
 // The slot of a digest among this many slots; of no slots, the digest itself.
@@ -111,24 +104,24 @@ pub fn slots_fit(slots: u64) -> bool
 }
 
 // The home slot of a byte key among this many slots, in a table with this start number.
-pub fn home(bytes: &[u8], slots: u64, start: u64) -> Homed
+pub fn home(bytes: &[u8], slots: u64, start: u64) -> Result<u64, Refusal>
     ensures { result ≡ homed_of start slots bytes.now }
 {
     if slots_fit(slots) {
         if bytes.len() <= KEY_LIMIT {
-            return Homed::At(slot_of_key(bytes, slots, start));
+            return Ok(slot_of_key(bytes, slots, start));
         }
-        return Homed::Refused(Refusal::LongKey);
+        return Err(Refusal::LongKey);
     }
-    Homed::Refused(Refusal::Sizes)
+    Err(Refusal::Sizes)
 }
 
 // The home slot of a u64 key among this many slots, in a table with this start number.
-pub fn home_word(key: u64, slots: u64, start: u64) -> Homed
+pub fn home_word(key: u64, slots: u64, start: u64) -> Result<u64, Refusal>
     ensures { result ≡ homed_of_word start slots key }
 {
     if slots_fit(slots) {
-        return Homed::At(slot_of_word(key, slots, start));
+        return Ok(slot_of_word(key, slots, start));
     }
-    Homed::Refused(Refusal::Sizes)
+    Err(Refusal::Sizes)
 }

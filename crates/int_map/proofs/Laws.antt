@@ -5,7 +5,6 @@ use mathlib.Core.Path.{◌≡◌, refl}
 use Prim.Native.Nat.{ℕ}
 use native.Mathlib.Omega.{arith}
 use lib.ListN.{length}
-use Rattle.answers.specs.declared.Outcome.TheVariants as outcome
 use Rattle.answers.specs.Numbers.{outcome_numbers}
 use Rattle.arrays.specs.Whole.{copied}
 use Rattle.arrays.proofs.Below.{copied_whole}
@@ -17,8 +16,9 @@ use Rattle.kinds.proofs.Sizing.{sized_as}
 use Rattle.int_slots.specs.Memory.{IntMemory, memory}
 use Rattle.int_slots.specs.Maps.{maps}
 use Rattle.int_slots.proofs.MapSizes.{same_long}
+use Rattle.std.specs.Prelude.{Ok}
 
-pub copy_done : (m n : IntMemory values) {b d : Bool} → b ≡ sized_of maps m → b ≡ true → d ≡ sized_of maps n → d ≡ true → length m.marks ≡ length n.marks → {x y z : List ℕ} → x ≡ copied m.marks n.marks → y ≡ copied m.keys n.keys → z ≡ copied m.words n.words → told (outcome_numbers outcome.Done) (memory x y z) ≡ copy_of maps m n
+pub copy_done : (m n : IntMemory values) {b d : Bool} → b ≡ sized_of maps m → b ≡ true → d ≡ sized_of maps n → d ≡ true → length m.marks ≡ length n.marks → {x y z : List ℕ} → x ≡ copied m.marks n.marks → y ≡ copied m.keys n.keys → z ≡ copied m.words n.words → told (outcome_numbers (Ok tt)) (memory x y z) ≡ copy_of maps m n
 copy_done m n p q r s e x y z =
     let (i, j) = same_long m p q in
     let (k, l) = same_long n r s in

@@ -8,79 +8,81 @@ ghost use Rattle.int_slots.specs.Kinds.{insert_of};
 ghost use Rattle.kinds.specs.Calls.{make_of, remove_of, copy_of};
 ghost use Rattle.int_slots.specs.Maps.{maps, before, after};
 
-use answers::{Inserted, Outcome, Refusal, Removed};
-use arrays::{clear_bytes, clear_words, copy_bytes, copy_words};
-use kinds::Probed;
+use answers::{Inserted, Lookup, Refusal};
+use kinds::{Mark, Probed};
 
 // Makes an empty map of the lent arrays.
-pub fn make(marks: &mut [u8], keys: &mut [u64], values: &mut [u64]) -> Outcome
+#[tactic(auto, using(kinds::proofs::Sizing::make_unsized, int_slots::proofs::MapSizes::unfit))]
+pub fn make(marks: &mut [u8], keys: &mut [u64], values: &mut [u64]) -> Result<(), Refusal>
     ensures { told (outcome_numbers result) (after marks.new keys.new values.new) ≡ make_of maps (before marks.old keys.old values.old) }
 {
-    if int_slots::map_fits(marks, keys, values) {
-        clear_bytes(marks);
-        clear_words(keys);
-        clear_words(values);
-        Outcome::Done
-    } else {
-        Outcome::Refused(Refusal::Sizes)
+    if !int_slots::map_fits(marks, keys, values) {
+        return Err(Refusal::Sizes);
     }
+    marks.fill(0);
+    keys.fill(0);
+    values.fill(0);
+    Ok(())
 }
 
 // Empties a map: every slot becomes never used.
-pub fn clear(marks: &mut [u8], keys: &mut [u64], values: &mut [u64]) -> Outcome
+pub fn clear(marks: &mut [u8], keys: &mut [u64], values: &mut [u64]) -> Result<(), Refusal>
     ensures { told (outcome_numbers result) (after marks.new keys.new values.new) ≡ make_of maps (before marks.old keys.old values.old) }
 {
     make(marks, keys, values)
 }
 
 // Gives a key its value: in its slot, or in the first free slot of its path.
+#[tactic(auto, using(int_slots::proofs::Calls::insert_full, int_slots::proofs::Calls::insert_refused))]
 pub fn insert(
     marks: &mut [u8],
     keys: &mut [u64],
     values: &mut [u64],
     key: u64,
     value: u64,
-) -> Inserted
+) -> Result<Inserted<u64>, Refusal>
     ensures { told (inserted_numbers result) (after marks.new keys.new values.new) ≡ insert_of (before marks.old keys.old values.old) key value }
 {
-    let seen = int_slots::map_probe(marks, keys, values, key);
-    match seen {
+    match int_slots::map_probe(marks, keys, values, key)? {
         Probed::Hit(slot, examined) => {
             let old = values[slot];
             values[slot] = value;
-            Inserted::Replaced(old, slot, examined)
+            Ok(Inserted::Replaced(old, slot, examined))
         }
         Probed::Free(slot, examined) => {
-            marks[slot] = 1;
+            marks[slot] = Mark::Live as u8;
             keys[slot] = key;
             values[slot] = value;
-            Inserted::Fresh(slot, examined)
+            Ok(Inserted::Fresh(slot, examined))
         }
-        Probed::Full(_) => Inserted::Refused(Refusal::NoSlot),
-        Probed::Refused(r) => Inserted::Refused(r),
+        Probed::Full(_) => Err(Refusal::NoSlot),
     }
 }
 
 // Takes a key out: its slot is freed, its words become 0.
-pub fn remove(marks: &mut [u8], keys: &mut [u64], values: &mut [u64], key: u64) -> Removed
+#[tactic(auto, using(int_slots::proofs::Calls::remove_gone, int_slots::proofs::Calls::remove_refused))]
+pub fn remove(
+    marks: &mut [u8],
+    keys: &mut [u64],
+    values: &mut [u64],
+    key: u64,
+) -> Result<Lookup<u64>, Refusal>
     ensures { told (removed_numbers result) (after marks.new keys.new values.new) ≡ remove_of maps (before marks.old keys.old values.old) key }
 {
-    let seen = int_slots::map_probe(marks, keys, values, key);
-    match seen {
+    match int_slots::map_probe(marks, keys, values, key)? {
         Probed::Hit(slot, examined) => {
             let old = values[slot];
-            marks[slot] = 2;
+            marks[slot] = Mark::Freed as u8;
             keys[slot] = 0;
             values[slot] = 0;
-            Removed::Removed(old, slot, examined)
+            Ok(Lookup::Found(old, slot, examined))
         }
-        Probed::Free(_, examined) => Removed::Absent(examined),
-        Probed::Full(examined) => Removed::Absent(examined),
-        Probed::Refused(r) => Removed::Refused(r),
+        Probed::Free(_, examined) | Probed::Full(examined) => Ok(Lookup::Absent(examined)),
     }
 }
 
 // Makes a map equal to another of equal sizes, in every slot.
+#[tactic(auto, using(kinds::proofs::Copying::copy_unsized, kinds::proofs::Copying::copy_from_unsized, kinds::proofs::Copying::copy_slots, int_slots::proofs::MapSizes::fit, int_slots::proofs::MapSizes::unfit, crate::proofs::Laws::copy_done))]
 pub fn copy(
     to_marks: &mut [u8],
     to_keys: &mut [u64],
@@ -88,18 +90,19 @@ pub fn copy(
     marks: &[u8],
     keys: &[u64],
     values: &[u64],
-) -> Outcome
+) -> Result<(), Refusal>
     ensures { told (outcome_numbers result) (after to_marks.new to_keys.new to_values.new) ≡ copy_of maps (before to_marks.old to_keys.old to_values.old) (before marks.now keys.now values.now) }
 {
-    if int_slots::map_fits(to_marks, to_keys, to_values) {
-        if int_slots::map_fits(marks, keys, values) {
-            if to_marks.len() == marks.len() {
-                copy_bytes(to_marks, marks);
-                copy_words(to_keys, keys);
-                copy_words(to_values, values);
-                return Outcome::Done;
-            }
-        }
+    if !int_slots::map_fits(to_marks, to_keys, to_values)
+        || !int_slots::map_fits(marks, keys, values)
+    {
+        return Err(Refusal::Sizes);
     }
-    Outcome::Refused(Refusal::Sizes)
+    if to_marks.len() != marks.len() {
+        return Err(Refusal::Sizes);
+    }
+    arrays::copy(to_marks, marks);
+    arrays::copy(to_keys, keys);
+    arrays::copy(to_values, values);
+    Ok(())
 }

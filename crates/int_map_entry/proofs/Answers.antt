@@ -14,11 +14,6 @@ use Rattle.int_slots.specs.Memory.{IntMemory, memory}
 use Rattle.int_map_occupied.specs.declared.Occupied.{Occupied}
 use Rattle.int_map_entry.specs.declared.Entered.{Entered}
 use Rattle.int_map_entry.specs.declared.Entered.TheVariants as entered
-use Rattle.int_map_occupied.specs.declared.Held.{Held}
-use Rattle.int_map_occupied.specs.declared.Held.TheVariants as held
-use Rattle.int_map_occupied.specs.declared.Swapped.{Swapped}
-use Rattle.int_map_occupied.specs.declared.Swapped.TheVariants as swapped
-use Rattle.int_map_vacant.specs.declared.InSlot.TheVariants as in_slot
 use Rattle.int_slots.specs.Maps.{maps}
 use Rattle.kinds.specs.Told.{told}
 use Rattle.kinds.proofs.Told.{said, left, retold}
@@ -28,6 +23,7 @@ use Rattle.int_map_vacant.specs.Numbers.{in_slot_numbers}
 use Rattle.kinds.specs.Calls.{held_of, set_of, vacant_insert_of, slot_of, or_insert_of, insert_entry_of}
 use Rattle.int_map_entry.specs.Calls.{vacant_slot_of, handle_of}
 use Rattle.int_map_occupied.proofs.Values.{get_ok, get_no}
+use Rattle.std.specs.Prelude.{Result, Ok, Err}
 
 -- an answer that is not vacant counts as slot S
 pub vacant_other : (S : ℕ) (a : Entered) → ((h : Vacant) (e : ℕ) → a ≡ entered.Vacant h e → ⊥) → S ≡ vacant_slot_of S a
@@ -44,12 +40,12 @@ not_occupied S (entered.Vacant h e) t = refl
 not_occupied S (entered.Refused r) t = refl
 
 -- what the answer of a set says of the theory's
-swapped_ok : (s : ℕ) {v : ℕ} {h : Occupied} {r : Swapped} (x : Or ℕ) → swapped_numbers r ≡ swapped_said s x → r ≡ swapped.Was v h → x ≡ ok v
+swapped_ok : (s : ℕ) {v : ℕ} {h : Occupied} {r : Result (ℕ × Occupied) Refusal} (x : Or ℕ) → swapped_numbers r ≡ swapped_said s x → r ≡ Ok (v, h) → x ≡ ok v
 unfolding swapped_numbers swapped_said
 swapped_ok s (no n) p q = other_case (rw q at p) refl
 swapped_ok s (ok w) p q = ap ok (sym (ap (λ n. n.value) (rw q at p)))
 
-swapped_no : (s : ℕ) {e : Refusal} {r : Swapped} (x : Or ℕ) → swapped_numbers r ≡ swapped_said s x → r ≡ swapped.Refused e → x ≡ no (number_of e)
+swapped_no : (s : ℕ) {e : Refusal} {r : Result (ℕ × Occupied) Refusal} (x : Or ℕ) → swapped_numbers r ≡ swapped_said s x → r ≡ Err e → x ≡ no (number_of e)
 unfolding swapped_numbers swapped_said
 swapped_no s (no n) p q = ap no (sym (ap (λ n. n.refusal) (rw q at p)))
 swapped_no s (ok w) p q = other_case (rw q at p) refl
@@ -71,21 +67,21 @@ module _ (marks keys vs : List ℕ) (k v : ℕ) (a : Entered) where
     on = rw o
 
     -- occupied: the handle's get
-    module _ {r : Held} (p : held_numbers r ≡ held_of maps (memory marks keys vs) h.slot k) where
-      pub or_insert_kept : {x : ℕ} {g : Occupied} → r ≡ held.Value x g → told (in_slot_numbers (in_slot.Now h x)) (memory marks keys vs) ≡ or_insert_of maps (memory marks keys vs) (handle_of (length marks) a) k v
+    module _ {r : Result (ℕ × Occupied) Refusal} (p : held_numbers r ≡ held_of maps (memory marks keys vs) h.slot k) where
+      pub or_insert_kept : {x : ℕ} {g : Occupied} → r ≡ Ok (x, g) → told (in_slot_numbers (Ok (h, x))) (memory marks keys vs) ≡ or_insert_of maps (memory marks keys vs) (handle_of (length marks) a) k v
       unfolding or_insert_of or_insert after_or_insert slot_of in_slot_numbers in_slot_said
       or_insert_kept q = rw (on, get_ok marks keys vs h.slot k p q)
 
-      pub or_insert_refused : {x : Refusal} → r ≡ held.Refused x → told (in_slot_numbers (in_slot.Refused x)) (memory marks keys vs) ≡ or_insert_of maps (memory marks keys vs) (handle_of (length marks) a) k v
+      pub or_insert_refused : {x : Refusal} → r ≡ Err x → told (in_slot_numbers (Err x)) (memory marks keys vs) ≡ or_insert_of maps (memory marks keys vs) (handle_of (length marks) a) k v
       unfolding or_insert_of or_insert after_or_insert slot_of in_slot_numbers in_slot_said
       or_insert_refused q = rw (on, get_no marks keys vs h.slot k p q)
 
     -- or its set
-    module _ {r : Swapped} {marks' keys' vs' : List ℕ} (p : told (swapped_numbers r) (memory marks' keys' vs') ≡ set_of maps (memory marks keys vs) h.slot k v) where
-      pub insert_entry_set : {x : ℕ} {g : Occupied} → r ≡ swapped.Was x g → told (in_slot_numbers (in_slot.Now h v)) (memory marks' keys' vs') ≡ insert_entry_of maps (memory marks keys vs) (handle_of (length marks) a) k v
+    module _ {r : Result (ℕ × Occupied) Refusal} {marks' keys' vs' : List ℕ} (p : told (swapped_numbers r) (memory marks' keys' vs') ≡ set_of maps (memory marks keys vs) h.slot k v) where
+      pub insert_entry_set : {x : ℕ} {g : Occupied} → r ≡ Ok (x, g) → told (in_slot_numbers (Ok (h, v))) (memory marks' keys' vs') ≡ insert_entry_of maps (memory marks keys vs) (handle_of (length marks) a) k v
       unfolding set_of insert_entry_of insert_entry after_insert_entry slot_of give in_slot_numbers in_slot_said
       insert_entry_set q = rw on (retold (rw (swapped_ok h.slot (occupied_get maps (memory marks keys vs) h.slot k) (said p) q)) (left p))
 
-      pub insert_entry_refused : {x : Refusal} → r ≡ swapped.Refused x → told (in_slot_numbers (in_slot.Refused x)) (memory marks' keys' vs') ≡ insert_entry_of maps (memory marks keys vs) (handle_of (length marks) a) k v
+      pub insert_entry_refused : {x : Refusal} → r ≡ Err x → told (in_slot_numbers (Err x)) (memory marks' keys' vs') ≡ insert_entry_of maps (memory marks keys vs) (handle_of (length marks) a) k v
       unfolding set_of insert_entry_of insert_entry after_insert_entry slot_of give in_slot_numbers in_slot_said
       insert_entry_refused q = rw on (retold (rw (swapped_no h.slot (occupied_get maps (memory marks keys vs) h.slot k) (said p) q)) (left p))

@@ -10,15 +10,16 @@ ghost use Rattle.int_map_entry.specs.Calls.{vacant_slot_of, handle_of};
 ghost use Rattle.kinds.specs.Calls.{entry_of, or_insert_of, insert_entry_of};
 ghost use Rattle.int_slots.specs.Maps.{maps, before, after};
 
-use answers::{Numbers, OCCUPIED, Refusal, VACANT, case_numbers, refusal_numbers};
+use answers::{Case, Numbers, Refusal, case_numbers};
 use kinds::Probed;
 
-// The handles and the answers of their calls stand in `int_map_occupied` and `int_map_vacant`, and are had here too.
-pub use int_map_occupied::{Held, Occupied, Swapped, Taken, TakenEntry};
-pub use int_map_vacant::{InSlot, Vacant};
+// The handles stand in `int_map_occupied` and `int_map_vacant`, and are had here too.
+pub use int_map_occupied::Occupied;
+pub use int_map_vacant::Vacant;
 
 // The answer of entry: an occupied handle with the value, or a vacant one, each with the examined number.
-#[derive(Drop)]
+// A refused one is a variant and no `Err`, since its own calls promise what they tell of it.
+#[derive(Clone, Copy, Debug, PartialEq, Eq)]
 pub enum Entered {
     Occupied(Occupied, u64, usize),
     Vacant(Vacant, usize),
@@ -29,27 +30,32 @@ pub enum Entered {
 pub fn entry(marks: &[u8], keys: &[u64], values: &[u64], key: u64) -> Entered
     ensures { entered_numbers result ≡ entry_of maps (before marks.now keys.now values.now) key }
 {
-    let seen = int_slots::map_probe(marks, keys, values, key);
-    match seen {
-        Probed::Hit(slot, examined) => Entered::Occupied(Occupied { slot }, values[slot], examined),
-        Probed::Free(slot, examined) => Entered::Vacant(Vacant { slot }, examined),
-        Probed::Full(_) => Entered::Refused(Refusal::NoSlot),
-        Probed::Refused(r) => Entered::Refused(r),
+    match int_slots::map_probe(marks, keys, values, key) {
+        Ok(Probed::Hit(slot, examined)) => Entered::Occupied(
+            Occupied { slot },
+            values[slot],
+            examined,
+        ),
+        Ok(Probed::Free(slot, examined)) => Entered::Vacant(Vacant { slot }, examined),
+        Ok(Probed::Full(_)) => Entered::Refused(Refusal::NoSlot),
+        Err(r) => Entered::Refused(r),
     }
 }
 
 impl Entered {
     // The vacant handle of an answer that is not occupied; a refused one counts as a handle of slot S.
+    #[tactic(auto, unfolding(crate::specs::Calls::vacant_slot_of), using(crate::proofs::Answers::vacant_other))]
     fn vacant(self, size: usize) -> Vacant
         ensures { result.slot ≡ vacant_slot_of size self }
     {
-        let Entered::Vacant(vacant, _) = self else {
-            return Vacant { slot: size };
-        };
-        vacant
+        match self {
+            Entered::Vacant(vacant, _) => vacant,
+            _ => Vacant { slot: size },
+        }
     }
 
     // Keeps a present value, else puts the default in; the value now in the slot is answered.
+    #[tactic(auto, using(crate::proofs::Answers::or_insert_refused))]
     pub fn or_insert(
         self,
         marks: &mut [u8],
@@ -57,7 +63,7 @@ impl Entered {
         values: &mut [u64],
         key: u64,
         default: u64,
-    ) -> InSlot
+    ) -> Result<(Occupied, u64), Refusal>
         ensures { told (in_slot_numbers result) (after marks.new keys.new values.new) ≡ or_insert_of maps (before marks.old keys.old values.old) (handle_of (length marks.old) self) key default }
     {
         let Entered::Occupied(handle, _, _) = self else {
@@ -65,11 +71,8 @@ impl Entered {
                 .vacant(marks.len())
                 .insert(marks, keys, values, key, default);
         };
-        let held = handle.get(marks, keys, values, key);
-        match held {
-            Held::Value(value, _) => InSlot::Now(handle, value),
-            Held::Refused(r) => InSlot::Refused(r),
-        }
+        let (present, _) = handle.get(marks, keys, values, key)?;
+        Ok((handle, present))
     }
 
     // Replaces a present value, else puts the value in; the value now in the slot is answered.
@@ -80,7 +83,7 @@ impl Entered {
         values: &mut [u64],
         key: u64,
         value: u64,
-    ) -> InSlot
+    ) -> Result<(Occupied, u64), Refusal>
         ensures { told (in_slot_numbers result) (after marks.new keys.new values.new) ≡ insert_entry_of maps (before marks.old keys.old values.old) (handle_of (length marks.old) self) key value }
     {
         let Entered::Occupied(handle, _, _) = self else {
@@ -88,51 +91,46 @@ impl Entered {
                 .vacant(marks.len())
                 .insert(marks, keys, values, key, value);
         };
-        let swapped = handle.set(marks, keys, values, key, value);
-        match swapped {
-            Swapped::Was(_, _) => InSlot::Now(handle, value),
-            Swapped::Refused(r) => InSlot::Refused(r),
-        }
+        handle.set(marks, keys, values, key, value)?;
+        Ok((handle, value))
     }
 }
 
 // The numbers of entry.
+#[tactic(auto, unfolding(crate::specs::Numbers::entered_numbers))]
 pub fn entered_numbers(a: Entered) -> Numbers
     ensures { result ≡ entered_numbers a }
 {
     match a {
         Entered::Occupied(handle, value, examined) => case_numbers(
-            OCCUPIED,
+            Case::Occupied,
             0,
             value,
             handle.slot,
             examined,
         ),
-        Entered::Vacant(handle, examined) => case_numbers(VACANT, 0, 0, handle.slot, examined),
-        Entered::Refused(r) => refusal_numbers(r),
+        Entered::Vacant(handle, examined) => case_numbers(
+            Case::Vacant,
+            0,
+            0,
+            handle.slot,
+            examined,
+        ),
+        Entered::Refused(r) => Numbers::from(r),
     }
 }
 
 // The entry answer of a case number and a slot: 12 is occupied, 13 vacant, any other number neither.
+#[tactic(auto, unfolding(crate::specs::Calls::handle_of, kinds::specs::Handing::handle_as))]
 pub fn entry_by_case(case: u64, slot: u64) -> Entered
     ensures { Hands handle_of result case slot }
 {
-    if case == OCCUPIED {
-        return Entered::Occupied(
-            Occupied {
-                slot: slot as usize,
-            },
-            0,
-            0,
-        );
+    let slot = slot as usize;
+    if case == u64::from(Case::Occupied) {
+        Entered::Occupied(Occupied { slot }, 0, 0)
+    } else if case == u64::from(Case::Vacant) {
+        Entered::Vacant(Vacant { slot }, 0)
+    } else {
+        Entered::Refused(Refusal::BadHandle)
     }
-    if case == VACANT {
-        return Entered::Vacant(
-            Vacant {
-                slot: slot as usize,
-            },
-            0,
-        );
-    }
-    Entered::Refused(Refusal::BadHandle)
 }

@@ -11,80 +11,68 @@ ghost use Rattle.int_map_occupied.specs.Numbers.{held_numbers, swapped_numbers, 
 ghost use Rattle.int_slots.specs.Kinds.{remove_entry_of};
 ghost use Rattle.kinds.specs.Calls.{held_of, set_of, taken_of};
 
-use answers::{Numbers, REMOVED, Refusal, VALUE, WAS, case_numbers, refusal_numbers};
+use answers::{Case, Numbers, Refusal, case_numbers};
+use kinds::Mark;
 
 // A handle of a slot that holds a key.
-#[derive(Clone, Copy)]
+#[derive(Clone, Copy, Debug, PartialEq, Eq)]
 pub struct Occupied {
     pub slot: usize,
 }
 
-// The answer of an occupied handle's get: the value in the slot.
-#[derive(Drop)]
-pub enum Held {
-    Value(u64, Occupied),
-    Refused(Refusal),
-}
-
-// The answer of its set: the value that was in the slot.
-#[derive(Drop)]
-pub enum Swapped {
-    Was(u64, Occupied),
-    Refused(Refusal),
-}
-
-// The answer of its remove: the value.
-#[derive(Drop)]
-pub enum Taken {
-    Removed(u64),
-    Refused(Refusal),
-}
-
-// The answer of its remove_entry: the key and the value.
-#[derive(Drop)]
-pub enum TakenEntry {
-    Removed(u64, u64),
-    Refused(Refusal),
-}
-
 // Whether a slot with this mark, key and value is live and holds the key.
-fn value_in(mark: u8, held: u64, value: u64, slot: usize, key: u64) -> Held
+#[tactic(auto, unfolding(crate::specs::Numbers::held_numbers, answers::specs::Said::held_said, model::specs::Calls::held_on, model::specs::Calls::need, kinds::specs::Marks::cell, kinds::specs::Marks::mark_read))]
+fn value_in(
+    mark: u8,
+    held: u64,
+    value: u64,
+    slot: usize,
+    key: u64,
+) -> Result<(u64, Occupied), Refusal>
     ensures { held_numbers result ≡ held_said slot (held_on maps key (cell mark held value)) }
 {
-    if 2 < mark {
-        return Held::Refused(Refusal::Damaged);
+    match Mark::try_from(mark)? {
+        Mark::Live if held == key => Ok((value, Occupied { slot })),
+        _ => Err(Refusal::BadHandle),
     }
-    if mark == 1 {
-        if held == key {
-            return Held::Value(value, Occupied { slot });
-        }
-        return Held::Refused(Refusal::BadHandle);
-    }
-    Held::Refused(Refusal::BadHandle)
 }
 
 // What an occupied handle of this slot holds for the key: the value, or a refusal.
-fn value_of(marks: &[u8], keys: &[u64], values: &[u64], slot: usize, key: u64) -> Held
+#[tactic(auto, using(crate::proofs::Values::value_slot, crate::proofs::Values::value_beyond, crate::proofs::Values::value_unfit))]
+fn value_of(
+    marks: &[u8],
+    keys: &[u64],
+    values: &[u64],
+    slot: usize,
+    key: u64,
+) -> Result<(u64, Occupied), Refusal>
     ensures { held_numbers result ≡ held_of maps (before marks.now keys.now values.now) slot key }
 {
-    if int_slots::map_fits(marks, keys, values) {
-        if slot < marks.len() {
-            return value_in(marks[slot], keys[slot], values[slot], slot, key);
-        }
-        return Held::Refused(Refusal::BadHandle);
+    if !int_slots::map_fits(marks, keys, values) {
+        return Err(Refusal::Sizes);
     }
-    Held::Refused(Refusal::Sizes)
+    if marks.len() <= slot {
+        return Err(Refusal::BadHandle);
+    }
+    value_in(marks[slot], keys[slot], values[slot], slot, key)
 }
 
 impl Occupied {
     // The value in the slot.
-    pub fn get(self, marks: &[u8], keys: &[u64], values: &[u64], key: u64) -> Held
+    pub fn get(
+        self,
+        marks: &[u8],
+        keys: &[u64],
+        values: &[u64],
+        key: u64,
+    ) -> Result<(u64, Occupied), Refusal>
         ensures { held_numbers result ≡ held_of maps (before marks.now keys.now values.now) self.slot key }
     {
         value_of(marks, keys, values, self.slot, key)
     }
 
     // Gives the slot another value; the old one is answered.
+    #[tactic(auto, using(crate::proofs::Values::set_refused))]
     pub fn set(
         self,
         marks: &mut [u8],
@@ -92,35 +80,32 @@ impl Occupied {
         values: &mut [u64],
         key: u64,
         value: u64,
-    ) -> Swapped
+    ) -> Result<(u64, Occupied), Refusal>
         ensures { told (swapped_numbers result) (after marks.new keys.new values.new) ≡ set_of maps (before marks.old keys.old values.old) self.slot key value }
     {
         let slot = self.slot;
-        let held = value_of(marks, keys, values, slot, key);
-        match held {
-            Held::Value(old, _) => {
-                values[slot] = value;
-                Swapped::Was(old, Occupied { slot })
-            }
-            Held::Refused(r) => Swapped::Refused(r),
-        }
+        let (old, _) = value_of(marks, keys, values, slot, key)?;
+        values[slot] = value;
+        Ok((old, Occupied { slot }))
     }
 
     // Frees the slot; its value is answered.
-    pub fn remove(self, marks: &mut [u8], keys: &mut [u64], values: &mut [u64], key: u64) -> Taken
+    #[tactic(auto, using(crate::proofs::Values::remove_refused))]
+    pub fn remove(
+        self,
+        marks: &mut [u8],
+        keys: &mut [u64],
+        values: &mut [u64],
+        key: u64,
+    ) -> Result<u64, Refusal>
         ensures { told (taken_numbers result) (after marks.new keys.new values.new) ≡ taken_of maps (before marks.old keys.old values.old) self.slot key }
     {
         let slot = self.slot;
-        let held = value_of(marks, keys, values, slot, key);
-        match held {
-            Held::Value(old, _) => {
-                marks[slot] = 2;
-                keys[slot] = 0;
-                values[slot] = 0;
-                Taken::Removed(old)
-            }
-            Held::Refused(r) => Taken::Refused(r),
-        }
+        let (value, _) = value_of(marks, keys, values, slot, key)?;
+        marks[slot] = Mark::Freed as u8;
+        keys[slot] = 0;
+        values[slot] = 0;
+        Ok(value)
     }
 
     // Frees the slot; its key and value are answered.
@@ -130,53 +115,53 @@ impl Occupied {
         keys: &mut [u64],
         values: &mut [u64],
         key: u64,
-    ) -> TakenEntry
+    ) -> Result<(u64, u64), Refusal>
         ensures { told (taken_entry_numbers result) (after marks.new keys.new values.new) ≡ remove_entry_of (before marks.old keys.old values.old) self.slot key }
     {
-        let taken = self.remove(marks, keys, values, key);
-        match taken {
-            Taken::Removed(old) => TakenEntry::Removed(key, old),
-            Taken::Refused(r) => TakenEntry::Refused(r),
-        }
+        Ok((key, self.remove(marks, keys, values, key)?))
     }
 }
 
 // The numbers of an occupied handle's get.
-pub fn held_numbers(a: Held) -> Numbers
+#[tactic(auto, unfolding(crate::specs::Numbers::held_numbers))]
+pub fn held_numbers(a: Result<(u64, Occupied), Refusal>) -> Numbers
     ensures { result ≡ held_numbers a }
 {
     match a {
-        Held::Value(value, handle) => case_numbers(VALUE, 0, value, handle.slot, 0),
-        Held::Refused(r) => refusal_numbers(r),
+        Ok((value, handle)) => case_numbers(Case::Value, 0, value, handle.slot, 0),
+        Err(r) => Numbers::from(r),
     }
 }
 
 // The numbers of its set.
-pub fn swapped_numbers(a: Swapped) -> Numbers
+#[tactic(auto, unfolding(crate::specs::Numbers::swapped_numbers))]
+pub fn swapped_numbers(a: Result<(u64, Occupied), Refusal>) -> Numbers
     ensures { result ≡ swapped_numbers a }
 {
     match a {
-        Swapped::Was(old, handle) => case_numbers(WAS, 0, old, handle.slot, 0),
-        Swapped::Refused(r) => refusal_numbers(r),
+        Ok((old, handle)) => case_numbers(Case::Was, 0, old, handle.slot, 0),
+        Err(r) => Numbers::from(r),
     }
 }
 
 // The numbers of its remove.
-pub fn taken_numbers(a: Taken) -> Numbers
+#[tactic(auto, unfolding(crate::specs::Numbers::taken_numbers))]
+pub fn taken_numbers(a: Result<u64, Refusal>) -> Numbers
     ensures { result ≡ taken_numbers a }
 {
     match a {
-        Taken::Removed(old) => case_numbers(REMOVED, 0, old, 0, 0),
-        Taken::Refused(r) => refusal_numbers(r),
+        Ok(old) => case_numbers(Case::Removed, 0, old, 0, 0),
+        Err(r) => Numbers::from(r),
     }
 }
 
 // The numbers of its remove_entry.
-pub fn taken_entry_numbers(a: TakenEntry) -> Numbers
+#[tactic(auto, unfolding(crate::specs::Numbers::taken_entry_numbers))]
+pub fn taken_entry_numbers(a: Result<(u64, u64), Refusal>) -> Numbers
     ensures { result ≡ taken_entry_numbers a }
 {
     match a {
-        TakenEntry::Removed(key, old) => case_numbers(REMOVED, key, old, 0, 0),
-        TakenEntry::Refused(r) => refusal_numbers(r),
+        Ok((key, old)) => case_numbers(Case::Removed, key, old, 0, 0),
+        Err(r) => Numbers::from(r),
     }
 }

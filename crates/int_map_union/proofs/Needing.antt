@@ -10,8 +10,6 @@ use Rattle.model.specs.Slots.{weigh, total}
 use Rattle.model.specs.Calls.{lacking}
 use Rattle.model.proofs.Cases.{by_bool}
 use Rattle.answers.specs.declared.Refusal.{Refusal}
-use Rattle.kinds.specs.declared.Probed.{Probed}
-use Rattle.kinds.specs.declared.Probed.TheVariants as probed
 use Rattle.kinds.specs.Columns.{values}
 use Rattle.kinds.specs.Marks.{cell}
 use Rattle.kinds.specs.Calls.{sized_of}
@@ -22,6 +20,9 @@ use Rattle.int_map_union.specs.Calls.{slot_needs, table_needs}
 use Rattle.int_slots.proofs.Seeking.{path_probed}
 use Rattle.kinds.specs.Probing.{missed_of}
 use Rattle.kinds.proofs.Uniting.{lacking_probed, weigh_idle}
+use Rattle.std.specs.Prelude.{Result, Ok, Err}
+use Rattle.kinds.specs.declared.Probed.{Probed}
+use Rattle.kinds.specs.declared.Probed.TheVariants.{Hit, Free, Full}
 
 -- a slot that is not live needs nothing
 pub slot_needs_idle : (l : IntMemory values) (mark key : ℕ) → (mark ≡ 1 → ⊥) → 0 ≡ slot_needs l mark key
@@ -29,21 +30,21 @@ unfolding slot_needs
 slot_needs_idle l mark key h = sym (weigh_idle (λ k. cond (lacking maps l k) 1 0) mark key (tt {0}) h)
 
 -- a live one by what the probing of its key found in the left
-module _ (marks keys vs : List ℕ) (mark k : ℕ) {r : Probed} (f : sized_of maps (memory marks keys vs) ≡ true) (one : mark ≡ 1) (p : r ≡ probing_map (memory marks keys vs) k) where
+module _ (marks keys vs : List ℕ) (mark k : ℕ) {r : Result Probed Refusal} (f : sized_of maps (memory marks keys vs) ≡ true) (one : mark ≡ 1) (p : r ≡ probing_map (memory marks keys vs) k) where
   slot_needs_live : slot_needs (memory marks keys vs) mark k ≡ cond (missed_of r) 1 0
   unfolding slot_needs cell weigh sized_of probing_map
   slot_needs_live = rw (one, lacking_probed maps (memory marks keys vs) k (p ∙ path_probed values (memory marks keys vs) k f))
 
-  pub slot_needs_hit : {s e : ℕ} → r ≡ probed.Hit s e → 0 ≡ slot_needs (memory marks keys vs) mark k
+  pub slot_needs_hit : {s e : ℕ} → r ≡ Ok (Hit s e) → 0 ≡ slot_needs (memory marks keys vs) mark k
   slot_needs_hit q = rw (slot_needs_live, q)
 
-  pub slot_needs_free : {s e : ℕ} → r ≡ probed.Free s e → 1 ≡ slot_needs (memory marks keys vs) mark k
+  pub slot_needs_free : {s e : ℕ} → r ≡ Ok (Free s e) → 1 ≡ slot_needs (memory marks keys vs) mark k
   slot_needs_free q = rw (slot_needs_live, q)
 
-  pub slot_needs_full : {e : ℕ} → r ≡ probed.Full e → 1 ≡ slot_needs (memory marks keys vs) mark k
+  pub slot_needs_full : {e : ℕ} → r ≡ Ok (Full e) → 1 ≡ slot_needs (memory marks keys vs) mark k
   slot_needs_full q = rw (slot_needs_live, q)
 
-  pub slot_needs_refused : {x : Refusal} → r ≡ probed.Refused x → 1 ≡ slot_needs (memory marks keys vs) mark k
+  pub slot_needs_refused : {x : Refusal} → r ≡ Err x → 1 ≡ slot_needs (memory marks keys vs) mark k
   slot_needs_refused q = rw (slot_needs_live, q)
 
 -- a slot needs one at most

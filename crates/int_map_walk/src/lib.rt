@@ -8,29 +8,28 @@ ghost use Rattle.int_slots.specs.Maps.{before};
 ghost use Rattle.int_slots.specs.Steps.{step_of};
 ghost use Rattle.int_map_walk.specs.Numbers.{step_numbers};
 
-use answers::{NOTHING, Numbers, PAIR, Refusal, WALK_DONE, number, walk_numbers};
+use answers::{Case, Numbers, Refusal, refused_walk_numbers, walk_numbers};
 use kinds::Ahead;
 
 // A walk of a map is the slot where it stands.
-#[derive(Clone, Copy)]
+#[derive(Clone, Copy, Debug, PartialEq, Eq)]
 pub struct Walk {
     pub at: usize,
 }
 
-// What a step of a walk hands out: a pair, nothing, or that the walk is done; or a refusal.
-#[derive(Drop)]
+// What a step of a walk hands out: a pair, nothing, or that the walk is done.
+#[derive(Clone, Copy, Debug, PartialEq, Eq)]
 pub enum Yielded {
     Pair(u64, u64),
     Nothing,
     Done,
-    Refused(Refusal),
 }
 
-// The answer of a step: the walk moved on, what it hands out, and the examined number.
-#[derive(Drop)]
+// The answer of a step: the walk moved on, what it hands out or a refusal, and the examined number.
+#[derive(Clone, Copy, Debug, PartialEq, Eq)]
 pub struct Stepped {
     pub walk: Walk,
-    pub out: Yielded,
+    pub out: Result<Yielded, Refusal>,
     pub examined: usize,
 }
 
@@ -47,26 +46,25 @@ impl Walk {
         ensures { step_numbers result ≡ step_of (before marks.now keys.now values.now) self.at budget }
     {
         let at = self.at;
-        let ahead = int_slots::map_ahead(marks, keys, values, at, budget);
-        match ahead {
-            Ahead::Live(slot) => Stepped {
+        match int_slots::map_ahead(marks, keys, values, at, budget) {
+            Ok(Ahead::Live(slot)) => Stepped {
                 walk: Walk { at: slot + 1 },
-                out: Yielded::Pair(keys[slot], values[slot]),
+                out: Ok(Yielded::Pair(keys[slot], values[slot])),
                 examined: slot + 1 - at,
             },
-            Ahead::Nothing(slot) => Stepped {
+            Ok(Ahead::Nothing(slot)) => Stepped {
                 walk: Walk { at: slot },
-                out: Yielded::Nothing,
+                out: Ok(Yielded::Nothing),
                 examined: slot - at,
             },
-            Ahead::Done => Stepped {
-                walk: Walk { at },
-                out: Yielded::Done,
+            Ok(Ahead::Done) => Stepped {
+                walk: self,
+                out: Ok(Yielded::Done),
                 examined: 0,
             },
-            Ahead::Refused(why) => Stepped {
-                walk: Walk { at },
-                out: Yielded::Refused(why),
+            Err(why) => Stepped {
+                walk: self,
+                out: Err(why),
                 examined: 0,
             },
         }
@@ -83,16 +81,15 @@ impl Walk {
 }
 
 // The numbers of a step of a walk.
+#[tactic(auto, unfolding(crate::specs::Numbers::step_numbers, crate::specs::Numbers::yielded_numbers))]
 pub fn step_numbers(s: Stepped) -> Numbers
     ensures { result ≡ step_numbers s }
 {
-    let at = s.walk.at;
-    let examined = s.examined;
-    let out = s.out;
-    match out {
-        Yielded::Pair(key, value) => walk_numbers(0, PAIR, key, value, examined, at),
-        Yielded::Nothing => walk_numbers(0, NOTHING, 0, 0, examined, at),
-        Yielded::Done => walk_numbers(0, WALK_DONE, 0, 0, examined, at),
-        Yielded::Refused(r) => walk_numbers(number(r), 0, 0, 0, examined, at),
+    let walk = s.walk.at;
+    match s.out {
+        Ok(Yielded::Pair(key, value)) => walk_numbers(Case::Pair, key, value, s.examined, walk),
+        Ok(Yielded::Nothing) => walk_numbers(Case::Nothing, 0, 0, s.examined, walk),
+        Ok(Yielded::Done) => walk_numbers(Case::WalkDone, 0, 0, s.examined, walk),
+        Err(r) => refused_walk_numbers(r, s.examined, walk),
     }
 }

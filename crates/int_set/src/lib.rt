@@ -8,76 +8,77 @@ ghost use Rattle.kinds.specs.Told.{told};
 ghost use Rattle.int_slots.specs.Kinds.{set_insert_of};
 ghost use Rattle.kinds.specs.Calls.{make_of, dropped_of, copy_of};
 
-use answers::{Added, Dropped, Outcome, Refusal};
-use arrays::{clear_bytes, clear_words, copy_bytes, copy_words};
-use kinds::Probed;
+use answers::{Inserted, Lookup, Refusal};
+use kinds::{Mark, Probed};
 
 // Makes an empty set of the lent arrays.
-pub fn make(marks: &mut [u8], keys: &mut [u64]) -> Outcome
+#[tactic(auto, using(kinds::proofs::Sizing::make_unsized, int_slots::proofs::SetSizes::unfit))]
+pub fn make(marks: &mut [u8], keys: &mut [u64]) -> Result<(), Refusal>
     ensures { told (outcome_numbers result) (after marks.new keys.new) ≡ make_of sets (before marks.old keys.old) }
 {
-    if int_slots::fits(marks, keys) {
-        clear_bytes(marks);
-        clear_words(keys);
-        Outcome::Done
-    } else {
-        Outcome::Refused(Refusal::Sizes)
+    if !int_slots::fits(marks, keys) {
+        return Err(Refusal::Sizes);
     }
+    marks.fill(0);
+    keys.fill(0);
+    Ok(())
 }
 
 // Empties a set: every slot becomes never used.
-pub fn clear(marks: &mut [u8], keys: &mut [u64]) -> Outcome
+pub fn clear(marks: &mut [u8], keys: &mut [u64]) -> Result<(), Refusal>
     ensures { told (outcome_numbers result) (after marks.new keys.new) ≡ make_of sets (before marks.old keys.old) }
 {
     make(marks, keys)
 }
 
 // Puts a key in: the first free slot of its path takes it; one that is there already stores nothing.
-pub fn insert(marks: &mut [u8], keys: &mut [u64], key: u64) -> Added
+#[tactic(auto, using(int_slots::proofs::Calls::set_insert_hit, int_slots::proofs::Calls::set_insert_full, int_slots::proofs::Calls::set_insert_refused))]
+pub fn insert(marks: &mut [u8], keys: &mut [u64], key: u64) -> Result<Inserted<()>, Refusal>
     ensures { told (added_numbers result) (after marks.new keys.new) ≡ set_insert_of (before marks.old keys.old) key }
 {
-    let seen = int_slots::probe(marks, keys, key);
-    match seen {
-        Probed::Hit(slot, examined) => Added::Already(slot, examined),
+    match int_slots::probe(marks, keys, key)? {
+        Probed::Hit(slot, examined) => Ok(Inserted::Replaced((), slot, examined)),
         Probed::Free(slot, examined) => {
-            marks[slot] = 1;
+            marks[slot] = Mark::Live as u8;
             keys[slot] = key;
-            Added::Fresh(slot, examined)
+            Ok(Inserted::Fresh(slot, examined))
         }
-        Probed::Full(_) => Added::Refused(Refusal::NoSlot),
-        Probed::Refused(r) => Added::Refused(r),
+        Probed::Full(_) => Err(Refusal::NoSlot),
     }
 }
 
 // Takes a key out: its slot is freed, its word becomes 0.
-pub fn remove(marks: &mut [u8], keys: &mut [u64], key: u64) -> Dropped
+#[tactic(auto, using(int_slots::proofs::Calls::set_remove_gone, int_slots::proofs::Calls::set_remove_refused))]
+pub fn remove(marks: &mut [u8], keys: &mut [u64], key: u64) -> Result<Lookup<()>, Refusal>
     ensures { told (dropped_numbers result) (after marks.new keys.new) ≡ dropped_of sets (before marks.old keys.old) key }
 {
-    let seen = int_slots::probe(marks, keys, key);
-    match seen {
+    match int_slots::probe(marks, keys, key)? {
         Probed::Hit(slot, examined) => {
-            marks[slot] = 2;
+            marks[slot] = Mark::Freed as u8;
             keys[slot] = 0;
-            Dropped::Removed(slot, examined)
+            Ok(Lookup::Found((), slot, examined))
         }
-        Probed::Free(_, examined) => Dropped::Absent(examined),
-        Probed::Full(examined) => Dropped::Absent(examined),
-        Probed::Refused(r) => Dropped::Refused(r),
+        Probed::Free(_, examined) | Probed::Full(examined) => Ok(Lookup::Absent(examined)),
     }
 }
 
 // Makes a set equal to another of equal sizes, in every slot.
-pub fn copy(to_marks: &mut [u8], to_keys: &mut [u64], marks: &[u8], keys: &[u64]) -> Outcome
+#[tactic(auto, using(kinds::proofs::Copying::copy_unsized, kinds::proofs::Copying::copy_from_unsized, kinds::proofs::Copying::copy_slots, int_slots::proofs::SetSizes::fit, int_slots::proofs::SetSizes::unfit, crate::proofs::Laws::copy_done))]
+pub fn copy(
+    to_marks: &mut [u8],
+    to_keys: &mut [u64],
+    marks: &[u8],
+    keys: &[u64],
+) -> Result<(), Refusal>
     ensures { told (outcome_numbers result) (after to_marks.new to_keys.new) ≡ copy_of sets (before to_marks.old to_keys.old) (before marks.now keys.now) }
 {
-    if int_slots::fits(to_marks, to_keys) {
-        if int_slots::fits(marks, keys) {
-            if to_marks.len() == marks.len() {
-                copy_bytes(to_marks, marks);
-                copy_words(to_keys, keys);
-                return Outcome::Done;
-            }
-        }
+    if !int_slots::fits(to_marks, to_keys) || !int_slots::fits(marks, keys) {
+        return Err(Refusal::Sizes);
     }
-    Outcome::Refused(Refusal::Sizes)
+    if to_marks.len() != marks.len() {
+        return Err(Refusal::Sizes);
+    }
+    arrays::copy(to_marks, marks);
+    arrays::copy(to_keys, keys);
+    Ok(())
 }

@@ -7,87 +7,69 @@ ghost use Rattle.int_slots.specs.Sets.{sets, before};
 ghost use Rattle.int_slots.specs.Kinds.{set_get_of};
 ghost use Rattle.kinds.specs.Calls.{capacity_of, len_of, is_empty_of, reserve_of, contains_of};
 
-use answers::{Contained, Counted, Emptiness, Member, Refusal, Reserved};
-use kinds::{Probed, Scanned};
+use answers::{Contained, Lookup, Refusal};
+use kinds::Probed;
 
 // The number of slots.
-pub fn capacity(marks: &[u8], keys: &[u64]) -> Counted
+#[tactic(auto, using(kinds::proofs::Sizing::capacity_unsized, int_slots::proofs::SetSizes::unfit))]
+pub fn capacity(marks: &[u8], keys: &[u64]) -> Result<usize, Refusal>
     ensures { counted_numbers result ≡ capacity_of sets (before marks.now keys.now) }
 {
-    if int_slots::fits(marks, keys) {
-        return Counted::Count(marks.len());
+    if !int_slots::fits(marks, keys) {
+        return Err(Refusal::Sizes);
     }
-    Counted::Refused(Refusal::Sizes)
+    Ok(marks.len())
 }
 
 // The number of keys.
-pub fn len(marks: &[u8], keys: &[u64]) -> Counted
+#[tactic(auto, using(kinds::proofs::Sizing::len_unsized, int_slots::proofs::SetSizes::fit, int_slots::proofs::SetSizes::unfit, int_slots::proofs::Bridge::len_scanned))]
+pub fn len(marks: &[u8], keys: &[u64]) -> Result<usize, Refusal>
     ensures { counted_numbers result ≡ len_of sets (before marks.now keys.now) }
 {
-    if int_slots::fits(marks, keys) {
-        let seen = int_slots::scan(marks);
-        match seen {
-            Scanned::Live(n) => return Counted::Count(n),
-            Scanned::Damaged => return Counted::Refused(Refusal::Damaged),
-        }
+    if !int_slots::fits(marks, keys) {
+        return Err(Refusal::Sizes);
     }
-    Counted::Refused(Refusal::Sizes)
+    int_slots::scan(marks)
 }
 
 // Whether there is no key.
-pub fn is_empty(marks: &[u8], keys: &[u64]) -> Emptiness
+#[tactic(auto, using(kinds::proofs::Counts::empty_told, kinds::proofs::Counts::empty_not))]
+pub fn is_empty(marks: &[u8], keys: &[u64]) -> Result<bool, Refusal>
     ensures { emptiness_numbers result ≡ is_empty_of sets (before marks.now keys.now) }
 {
-    let count = len(marks, keys);
-    match count {
-        Counted::Count(n) => {
-            if n == 0 {
-                return Emptiness::Empty;
-            }
-            Emptiness::Holds
-        }
-        Counted::Refused(r) => Emptiness::Refused(r),
-    }
+    Ok(len(marks, keys)? == 0)
 }
 
 // Whether so many slots are not live.
-pub fn reserve(marks: &[u8], keys: &[u64], asked: u64) -> Reserved
+#[tactic(auto, using(kinds::proofs::Counts::reserve_not))]
+pub fn reserve(marks: &[u8], keys: &[u64], asked: u64) -> Result<(), Refusal>
     ensures { reserved_numbers result ≡ reserve_of sets (before marks.now keys.now) asked 0 }
 {
-    let count = len(marks, keys);
-    match count {
-        Counted::Count(n) => {
-            if asked <= (marks.len() - n) as u64 {
-                return Reserved::Room;
-            }
-            Reserved::Refused(Refusal::NoSlot)
-        }
-        Counted::Refused(r) => Reserved::Refused(r),
+    let left = marks.len() - len(marks, keys)?;
+    if (left as u64) < asked {
+        return Err(Refusal::NoSlot);
     }
+    Ok(())
 }
 
 // The key where it is there, with its slot and the examined number.
-pub fn get(marks: &[u8], keys: &[u64], key: u64) -> Member
+#[tactic(auto, using(int_slots::proofs::Calls::set_get_hit, int_slots::proofs::Calls::set_get_gone, int_slots::proofs::Calls::set_get_refused))]
+pub fn get(marks: &[u8], keys: &[u64], key: u64) -> Result<Lookup<u64>, Refusal>
     ensures { member_numbers result ≡ set_get_of (before marks.now keys.now) key }
 {
-    let seen = int_slots::probe(marks, keys, key);
-    match seen {
-        Probed::Hit(slot, examined) => Member::Found(key, slot, examined),
-        Probed::Free(_, examined) => Member::Absent(examined),
-        Probed::Full(examined) => Member::Absent(examined),
-        Probed::Refused(r) => Member::Refused(r),
+    match int_slots::probe(marks, keys, key)? {
+        Probed::Hit(slot, examined) => Ok(Lookup::Found(key, slot, examined)),
+        Probed::Free(_, examined) | Probed::Full(examined) => Ok(Lookup::Absent(examined)),
     }
 }
 
 // Whether a key is there, with the examined number.
-pub fn contains(marks: &[u8], keys: &[u64], key: u64) -> Contained
+#[tactic(auto, using(int_slots::proofs::Calls::contains_hit, int_slots::proofs::Calls::contains_gone, int_slots::proofs::Calls::contains_refused))]
+pub fn contains(marks: &[u8], keys: &[u64], key: u64) -> Result<Contained, Refusal>
     ensures { contained_numbers result ≡ contains_of sets (before marks.now keys.now) key }
 {
-    let seen = int_slots::probe(marks, keys, key);
-    match seen {
-        Probed::Hit(_, examined) => Contained::Present(examined),
-        Probed::Free(_, examined) => Contained::Absent(examined),
-        Probed::Full(examined) => Contained::Absent(examined),
-        Probed::Refused(r) => Contained::Refused(r),
+    match int_slots::probe(marks, keys, key)? {
+        Probed::Hit(_, examined) => Ok(Contained::Present(examined)),
+        Probed::Free(_, examined) | Probed::Full(examined) => Ok(Contained::Absent(examined)),
     }
 }

@@ -8,25 +8,29 @@ use borrow.Author.Tests.{le-leb}
 use lib.Dec.{eqb, leb}
 use lib.ListN.{length}
 use Rattle.model.specs.Store.{path, live_count, used, damaged_slots}
-use Rattle.model.specs.Calls.{Or, no, need, pass, seen_by, spot_by, get, entry, remove}
+use Rattle.model.specs.Calls.{Or, no, need, pass, seen_by, spot_by, get, entry, remove, length as length_of}
 use Rattle.model.proofs.Cases.{by_bool, clash}
 use Rattle.digest.specs.Home.{home_of_word, slots_fit}
 use Rattle.digest.proofs.Bounds.{home_word_below}
 use Rattle.answers.specs.declared.Refusal.TheVariants.{Sizes}
-use Rattle.kinds.specs.declared.Probed.{Probed}
-use Rattle.kinds.specs.declared.Probed.TheVariants.{Hit, Free, Refused}
-use Rattle.kinds.specs.declared.Scanned.{Scanned}
-use Rattle.kinds.specs.declared.Scanned.TheVariants as scanned
+use Rattle.answers.specs.Numbers.{counted_numbers}
+use Rattle.answers.specs.Said.{count_said}
+use Rattle.kinds.specs.Calls.{len_of}
 use Rattle.kinds.specs.Columns.{Column}
 use Rattle.kinds.specs.Columns as columns
 use Rattle.kinds.specs.Marks.{words_of}
 use Rattle.kinds.specs.Probing.{along}
 use Rattle.kinds.proofs.Bridge as kinds
-use Rattle.kinds.proofs.Bridge.{seen_of, spot_of, path_cells, seen_path, spot_path, hit_below, free_below}
+use Rattle.kinds.proofs.Bridge.{seen_of, spot_of, path_cells, seen_path, spot_path, hit_below, free_below, scanning_cells}
 use Rattle.int_slots.specs.Memory.{IntMemory, int_store, fitting}
 use Rattle.int_slots.specs.Probing.{probing}
 use Rattle.int_slots.specs.Scanning.{scanning}
 use Rattle.int_slots.proofs.Sizes.{fitting_says}
+use Rattle.std.specs.Prelude.{Result, Ok, Err}
+use Rattle.answers.specs.declared.Refusal.{Refusal}
+use Rattle.kinds.specs.declared.Probed.{Probed}
+use Rattle.kinds.specs.declared.Probed.TheVariants.{Hit, Free}
+use Rattle.answers.specs.declared.Refusal.TheVariants as refusal
 
 and_assoc : (a b c : Bool) → (a && (b && c)) ≡ ((a && b) && c)
 and_assoc true b c = refl
@@ -54,7 +58,7 @@ module _ {W : Type 0} (C : Column W) (m : IntMemory C) where
     probing_path f = rw f (sym (path_cells (int_store C) m (words_of m.marks) (words_of m.keys) (C.read m.words) refl k))
 
     -- or refusal 1
-    pub probing_unfit : fitting m.marks m.keys ≡ false → probing m.marks m.keys k ≡ Refused Sizes
+    pub probing_unfit : fitting m.marks m.keys ≡ false → probing m.marks m.keys k ≡ Err Sizes
     unfolding probing
     probing_unfit f = rw f
 
@@ -72,13 +76,13 @@ module _ {W : Type 0} (C : Column W) (m : IntMemory C) where
         rw (probing_path f, ← room) (spot_path (int_store C) m (words_of m.marks) (words_of m.keys) (C.read m.words) refl k)
 
     -- where a probing answered r
-    module _ {r : Probed} (p : r ≡ probing m.marks m.keys k) where
+    module _ {r : Result Probed Refusal} (p : r ≡ probing m.marks m.keys k) where
       -- any answer but refusal 1 means that marks and keys fit
-      pub fits_unless : (r ≡ Refused Sizes → ⊥) → fitting m.marks m.keys ≡ true
+      pub fits_unless : (r ≡ Err Sizes → ⊥) → fitting m.marks m.keys ≡ true
       fits_unless h = by_bool (fitting m.marks m.keys) (λ f. f) (λ f. absurd (h (p ∙ probing_unfit f)))
 
       -- the whole calls, by what the probing answered, where the column is as long as the marks
-      module _ {x : Probed} (q : r ≡ x) (long : C.long m.words (length m.marks) ≡ true) where
+      module _ {x : Result Probed Refusal} (q : r ≡ x) (long : C.long m.words (length m.marks) ≡ true) where
         pub get_probing : get (int_store C) m k ≡ seen_of (C.read m.words) x
         unfolding get need pass
         get_probing = rw (sized_is, long, ← q, p) (by_bool (fitting m.marks m.keys) (λ f. rw f (seen_probing f)) (λ f. rw (f, probing_unfit f)))
@@ -92,28 +96,44 @@ module _ {W : Type 0} (C : Column W) (m : IntMemory C) where
         entry_probing = rw (sized_is, long, ← q, p) (by_bool (fitting m.marks m.keys) (λ f. rw f (spot_probing f)) (λ f. rw (f, probing_unfit f)))
 
   -- the scan tells the table's own damage and length
-  module _ {r : Scanned} (p : r ≡ scanning m.marks) where
-    pub scan_bad : r ≡ scanned.Damaged → damaged_slots (int_store C) m ≡ true
+  module _ {r : Result ℕ Refusal} (p : r ≡ scanning m.marks) where
+    pub scan_bad : r ≡ Err refusal.Damaged → damaged_slots (int_store C) m ≡ true
     unfolding scanning
     scan_bad q = kinds.scan_bad (int_store C) m (words_of m.marks) (words_of m.keys) (C.read m.words) refl p q
 
-    pub scan_live : {n : ℕ} → r ≡ scanned.Live n → (damaged_slots (int_store C) m ≡ false) × (live_count (int_store C) m ≡ n) × (n ≤ length m.marks)
+    -- and damage is its only refusal
+    pub scan_refused : {e : Refusal} → r ≡ Err e → (damaged_slots (int_store C) m ≡ true) × (e ≡ refusal.Damaged)
+    unfolding scanning
+    scan_refused {e} q =
+        let t = scanning_cells (int_store C) m (words_of m.marks) (words_of m.keys) (C.read m.words) refl in
+        by_bool (damaged_slots (int_store C) m)
+        (λ h. let w : Err e ≡ Err refusal.Damaged = sym q ∙ p ∙ (rw h at t) in (h, cc))
+        (λ h. clash (cc (rw h at t)))
+
+    pub scan_live : {n : ℕ} → r ≡ Ok n → (damaged_slots (int_store C) m ≡ false) × (live_count (int_store C) m ≡ n) × (n ≤ length m.marks)
     unfolding scanning
     scan_live q = kinds.scan_live (int_store C) m (words_of m.marks) (words_of m.keys) (C.read m.words) refl p q
 
+    -- so where the sizes are right, it is what the length tells
+    pub len_scanned : (int_store C).sized m ≡ true → counted_numbers r ≡ len_of (int_store C) m
+    unfolding scanning len_of length_of need count_said counted_numbers
+    len_scanned e =
+        let t = scanning_cells (int_store C) m (words_of m.marks) (words_of m.keys) (C.read m.words) refl in
+        rw (p, t, e) (by_bool (damaged_slots (int_store C) m) (λ h. rw h) (λ h. rw h))
+
 -- a slot that a probing gives is one of the table's, and there are as many keys as marks
-module _ (marks keys : List ℕ) (k : ℕ) {r : Probed} (p : r ≡ probing marks keys k) where
+module _ (marks keys : List ℕ) (k : ℕ) {r : Result Probed Refusal} (p : r ≡ probing marks keys k) where
   -- marks and keys alone
   bare : IntMemory columns.nothing
   bare = record { marks = marks; keys = keys; words = tt }
 
-  pub hit_slot : {s e : ℕ} → r ≡ Hit s e → (s < length marks) × (length keys ≡ length marks)
+  pub hit_slot : {s e : ℕ} → r ≡ Ok (Hit s e) → (s < length marks) × (length keys ≡ length marks)
   unfolding bare
   hit_slot q =
       let f = fits_unless columns.nothing bare k p (λ z. clash cc) in
       (hit_below (int_store columns.nothing) bare k (home_inside columns.nothing bare k f) (sym (probing_path columns.nothing bare k f) ∙ sym p ∙ q), (fitting_says marks keys f).1)
 
-  pub free_slot : {s e : ℕ} → r ≡ Free s e → (s < length marks) × (length keys ≡ length marks)
+  pub free_slot : {s e : ℕ} → r ≡ Ok (Free s e) → (s < length marks) × (length keys ≡ length marks)
   unfolding bare
   free_slot q =
       let f = fits_unless columns.nothing bare k p (λ z. clash cc) in

@@ -1,5 +1,7 @@
 -- The test of an integer map's sizes, and what right sizes say.
+use Prim.Native.Nat.{ℕ}
 use mathlib.Core.Bool.{Bool, true, false}
+use mathlib.Core.List.{List}
 use mathlib.Core.Path.{◌≡◌, sym, ◌∙◌}
 use borrow.Author.Tests.{eqb-true, eq-eqb, ne_eqb}
 use lib.Dec.{eqb}
@@ -9,7 +11,7 @@ use Rattle.digest.specs.Home.{slots_fit}
 use Rattle.kinds.specs.Calls.{sized_of}
 use Rattle.kinds.specs.Columns.{values}
 use Rattle.kinds.proofs.Sizing.{sized_as}
-use Rattle.int_slots.specs.Memory.{IntMemory, fitting}
+use Rattle.int_slots.specs.Memory.{IntMemory, memory, fitting}
 use Rattle.int_slots.specs.Maps.{maps}
 use Rattle.int_slots.proofs.Sizes.{fitting_says}
 use Rattle.int_slots.proofs.Bridge.{sized_is, sized_short}
@@ -37,3 +39,11 @@ module _ (m : IntMemory values) where
   same_long p q =
       let (a, d) = both (fitting m.marks m.keys) (eqb (length m.marks) (length m.words)) (sym (sized_is values m) ∙ sized_as maps m p q) in
       ((fitting_says m.marks m.keys a).1, sym (eqb-true (length m.marks) (length m.words) d))
+
+-- what the test of the sizes answered
+module _ (marks keys vs : List ℕ) {b : Bool} (p : b ≡ sized_of maps (memory marks keys vs)) where
+  pub fit : b ≡ true → maps.sized (memory marks keys vs) ≡ true
+  fit q = sized_as maps (memory marks keys vs) p q
+
+  pub unfit : b ≡ false → maps.sized (memory marks keys vs) ≡ false
+  unfit q = sized_as maps (memory marks keys vs) p q

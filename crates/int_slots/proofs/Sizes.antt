@@ -11,11 +11,12 @@ use Rattle.model.proofs.Cases.{both}
 use Rattle.digest.specs.Home.{home_of_word, slots_fit}
 use Rattle.digest.proofs.Bounds.{home_word_below}
 use Rattle.answers.specs.declared.Refusal.TheVariants.{Sizes}
-use Rattle.kinds.specs.declared.Probed.{Probed}
-use Rattle.kinds.specs.declared.Probed.TheVariants.{Refused}
 use Rattle.kinds.specs.Probing.{along}
 use Rattle.int_slots.specs.Memory.{integers, fitting}
 use Rattle.int_slots.specs.Probing.{slots_in, probing}
+use Rattle.std.specs.Prelude.{Result, Err}
+use Rattle.answers.specs.declared.Refusal.{Refusal}
+use Rattle.kinds.specs.declared.Probed.{Probed}
 
 module _ (marks keys : List ℕ) where
   -- marks and keys that fit are of one length, and there are some
@@ -32,11 +33,11 @@ module _ (marks keys : List ℕ) where
     home_fits q e = let (a, c) = fitting_says (sym p ∙ q) in (rw e (home_word_below 0 (length marks) k a), c)
 
     -- and the probing is the path's answer
-    pub probing_fit : {h : ℕ} {r : Probed} → b ≡ true → h ≡ home_of_word 0 (length marks) k → r ≡ along (length marks) h (find integers (length marks) h (slots_in marks keys) k) → r ≡ probing marks keys k
+    pub probing_fit : {h : ℕ} {r : Result Probed Refusal} → b ≡ true → h ≡ home_of_word 0 (length marks) k → r ≡ along (length marks) h (find integers (length marks) h (slots_in marks keys) k) → r ≡ probing marks keys k
     unfolding probing
     probing_fit q e w = rw (sym p ∙ q, ← e) w
 
     -- else it is refusal 1
-    pub probing_misfit : b ≡ false → Refused Sizes ≡ probing marks keys k
+    pub probing_misfit : b ≡ false → Err Sizes ≡ probing marks keys k
     unfolding probing
     probing_misfit q = rw (sym p ∙ q)

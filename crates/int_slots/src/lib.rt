@@ -16,42 +16,31 @@ ghost use Rattle.kinds.specs.Calls.{sized_of};
 
 use answers::Refusal;
 use digest::{slot_of_word, slots_fit};
-use kinds::{
-    Ahead, Next, Probed, Scanned, Sight, Stretch, ahead_by, count_mark, ended_at, first_free,
-    next_slot, way,
-};
+use kinds::{Ahead, Mark, Probed, Sight, ahead_by, ended_at, first_free, next_slot, way};
 
 // Whether marks and keys are of one length that a table may have.
+#[tactic(auto, unfolding(crate::specs::Memory::fitting))]
 pub fn fits(marks: &[u8], keys: &[u64]) -> bool
     ensures { result ≡ fitting marks.now keys.now }
 {
-    if slots_fit(marks.len() as u64) {
-        return marks.len() == keys.len();
-    }
-    false
+    slots_fit(marks.len() as u64) && marks.len() == keys.len()
 }
 
 // The look at a slot with this mark and key, for a key.
-fn look(mark: u8, held: u64, key: u64) -> Sight
+#[tactic(auto, unfolding(kinds::specs::Probing::look_of, kinds::specs::Probing::look_at, kinds::specs::Marks::cell, kinds::specs::Marks::mark_read))]
+fn look(mark: u8, held: u64, key: u64) -> Result<Sight, Refusal>
     ensures { result ≡ look_of integers key mark held }
 {
-    if mark == 1 {
-        if held == key {
-            return Sight::Same;
-        }
-        return Sight::Other;
+    match Mark::try_from(mark)? {
+        Mark::Never => Ok(Sight::Never),
+        Mark::Freed => Ok(Sight::Freed),
+        Mark::Live if held == key => Ok(Sight::Same),
+        Mark::Live => Ok(Sight::Other),
     }
-    if mark == 0 {
-        return Sight::Never;
-    }
-    if mark == 2 {
-        return Sight::Freed;
-    }
-    Sight::Damaged
 }
 
 // The path of a key from its home slot, slot by slot: each break is an answer.
-fn walk_path(marks: &[u8], keys: &[u64], key: u64, home: usize) -> Probed
+fn walk_path(marks: &[u8], keys: &[u64], key: u64, home: usize) -> Result<Probed, Refusal>
     requires { (home < length marks.now) × (length keys.now ≡ length marks.now) }
     ensures { result ≡ along (length marks.now) home (find integers (length marks.now) home (slots_in marks.now keys.now) key) }
 {
@@ -60,121 +49,121 @@ fn walk_path(marks: &[u8], keys: &[u64], key: u64, home: usize) -> Probed
     let mut n = 0;
     let mut free = size;
     loop {
-        let sight = look(marks[slot], keys[slot], key);
-        match sight {
-            Sight::Never => break ended_at(first_free(free, slot, size), size, n + 1),
+        match look(marks[slot], keys[slot], key)? {
+            Sight::Never => break Ok(ended_at(first_free(free, slot, size), size, n + 1)),
             Sight::Freed => {
                 free = first_free(free, slot, size);
             }
-            Sight::Damaged => break Probed::Refused(Refusal::Damaged),
-            Sight::Same => break Probed::Hit(slot, n + 1),
+            Sight::Same => break Ok(Probed::Hit(slot, n + 1)),
             Sight::Other => {}
         }
         n += 1;
         if n == size {
-            break ended_at(free, size, n);
+            break Ok(ended_at(free, size, n));
         }
         slot = next_slot(slot, size);
     }
 }
 
 // The probing of a key: refusal 1, or what its path found.
-pub fn probe(marks: &[u8], keys: &[u64], key: u64) -> Probed
+#[tactic(auto, using(crate::proofs::Sizes::home_fits, crate::proofs::Sizes::probing_fit, crate::proofs::Sizes::probing_misfit))]
+pub fn probe(marks: &[u8], keys: &[u64], key: u64) -> Result<Probed, Refusal>
     ensures { result ≡ probing marks.now keys.now key }
 {
-    if fits(marks, keys) {
-        let home = slot_of_word(key, marks.len() as u64, 0) as usize;
-        return walk_path(marks, keys, key, home);
+    if !fits(marks, keys) {
+        return Err(Refusal::Sizes);
     }
-    Probed::Refused(Refusal::Sizes)
+    let home = slot_of_word(key, marks.len() as u64, 0) as usize;
+    walk_path(marks, keys, key, home)
 }
 
 // The scan of all marks: damage, else the number of live slots.
-pub fn scan(marks: &[u8]) -> Scanned
+pub fn scan(marks: &[u8]) -> Result<usize, Refusal>
     ensures { result ≡ scanning marks.now }
 {
     let mut live = 0;
     let mut i = 0;
     while i < marks.len() {
-        let mark = marks[i];
-        if 2 < mark {
-            return Scanned::Damaged;
+        let mark = Mark::try_from(marks[i])?;
+        match mark {
+            Mark::Live => live += 1,
+            _ => {}
         }
-        live += count_mark(mark);
         i += 1;
     }
-    Scanned::Live(live)
+    Ok(live)
 }
 
 // The first live or damaged slot from `at` on, before `end`.
-pub fn next_live(marks: &[u8], at: usize, end: usize) -> Next
+pub fn next_live(marks: &[u8], at: usize, end: usize) -> Result<Option<usize>, Refusal>
     requires { end ≤ length marks.now }
     ensures { result ≡ nexting marks.now at end }
 {
     let mut i = at;
     while i < end {
-        let here = marks[i];
-        if here == 1 {
-            return Next::Live(i);
+        let here = Mark::try_from(marks[i])?;
+        match here {
+            Mark::Live => return Ok(Some(i)),
+            _ => i += 1,
         }
-        if 2 < here {
-            return Next::Damaged;
-        }
-        i += 1;
     }
-    Next::Nothing
+    Ok(None)
 }
 
 // Whether the three arrays of a map are of one length that a table may have.
+#[tactic(auto, unfolding(kinds::specs::Calls::sized_of))]
 pub fn map_fits(marks: &[u8], keys: &[u64], values: &[u64]) -> bool
     ensures { result ≡ sized_of maps (before marks.now keys.now values.now) }
 {
-    if marks.len() == values.len() {
-        if marks.len() == keys.len() {
-            return slots_fit(marks.len() as u64);
-        }
-    }
-    false
+    marks.len() == values.len() && marks.len() == keys.len() && slots_fit(marks.len() as u64)
 }
 
 // The probing of a key in a map: refusal 1, or what its path found.
-pub fn map_probe(marks: &[u8], keys: &[u64], values: &[u64], key: u64) -> Probed
+#[tactic(auto, using(crate::proofs::Seeking::map_probe_long, crate::proofs::Seeking::map_probe_short))]
+pub fn map_probe(marks: &[u8], keys: &[u64], values: &[u64], key: u64) -> Result<Probed, Refusal>
     ensures { result ≡ probing_map (before marks.now keys.now values.now) key }
 {
-    if marks.len() == values.len() {
-        return probe(marks, keys, key);
+    if marks.len() != values.len() {
+        return Err(Refusal::Sizes);
     }
-    Probed::Refused(Refusal::Sizes)
+    probe(marks, keys, key)
 }
 
 // What a step of a walk comes upon where the sizes are right: its tests in order, then the first live slot within its reach.
-fn look_ahead(marks: &[u8], at: usize, budget: u64) -> Ahead
+#[tactic(auto, unfolding(crate::specs::Scanning::nexting), using(kinds::proofs::Stepping::way_inside, kinds::proofs::Stepping::ahead_upto, kinds::proofs::Stepping::ahead_done, kinds::proofs::Stepping::ahead_refused))]
+fn look_ahead(marks: &[u8], at: usize, budget: u64) -> Result<Ahead, Refusal>
     ensures { result ≡ ahead_of true (words_of marks.now) (length marks.now) at budget }
 {
-    let stretch = way(marks.len(), at, budget);
-    match stretch {
-        Stretch::Upto(end) => ahead_by(next_live(marks, at, end), end),
-        Stretch::Done => Ahead::Done,
-        Stretch::Refused(why) => Ahead::Refused(why),
+    match way(marks.len(), at, budget)? {
+        Some(end) => ahead_by(next_live(marks, at, end), end),
+        None => Ok(Ahead::Done),
     }
 }
 
 // What a step of a walk of a set comes upon: refusal 1, or what it comes upon among the marks.
-pub fn ahead(marks: &[u8], keys: &[u64], at: usize, budget: u64) -> Ahead
+#[tactic(auto, using(crate::proofs::Steps::set_ahead_law, crate::proofs::Steps::set_unfit))]
+pub fn ahead(marks: &[u8], keys: &[u64], at: usize, budget: u64) -> Result<Ahead, Refusal>
     ensures { result ≡ set_ahead marks.now keys.now at budget }
 {
-    if fits(marks, keys) {
-        return look_ahead(marks, at, budget);
+    if !fits(marks, keys) {
+        return Err(Refusal::Sizes);
     }
-    Ahead::Refused(Refusal::Sizes)
+    look_ahead(marks, at, budget)
 }
 
 // The same of a map.
-pub fn map_ahead(marks: &[u8], keys: &[u64], values: &[u64], at: usize, budget: u64) -> Ahead
+#[tactic(auto, using(crate::proofs::Steps::map_ahead_law, crate::proofs::Steps::map_unfit))]
+pub fn map_ahead(
+    marks: &[u8],
+    keys: &[u64],
+    values: &[u64],
+    at: usize,
+    budget: u64,
+) -> Result<Ahead, Refusal>
     ensures { result ≡ map_ahead marks.now keys.now values.now at budget }
 {
-    if map_fits(marks, keys, values) {
-        return look_ahead(marks, at, budget);
+    if !map_fits(marks, keys, values) {
+        return Err(Refusal::Sizes);
     }
-    Ahead::Refused(Refusal::Sizes)
+    look_ahead(marks, at, budget)
 }

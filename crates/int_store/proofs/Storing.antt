@@ -14,8 +14,6 @@ use Rattle.model.specs.Store.{path, slot_at}
 use Rattle.model.specs.Calls.{rule_by, rule, store_all}
 use Rattle.model.proofs.Cases.{both, by_bool}
 use Rattle.answers.specs.declared.Refusal.{Refusal}
-use Rattle.kinds.specs.declared.Probed.{Probed}
-use Rattle.kinds.specs.declared.Probed.TheVariants.{Hit, Free, Full, Refused}
 use Rattle.kinds.specs.Columns.{Column, values, nothing}
 use Rattle.kinds.specs.Calls.{sized_of}
 use Rattle.kinds.specs.Probing.{slot_by}
@@ -28,6 +26,9 @@ use Rattle.int_slots.specs.Sets.{sets, memory as set_memory}
 use Rattle.int_slots.specs.Probing.{probing}
 use Rattle.int_slots.proofs.Bridge.{sized_is, probing_path}
 use Rattle.int_slots.proofs.MapSizes.{same_long}
+use Rattle.std.specs.Prelude.{Result, Ok, Err}
+use Rattle.kinds.specs.declared.Probed.{Probed}
+use Rattle.kinds.specs.declared.Probed.TheVariants.{Hit, Free, Full}
 
 -- the rule with no test, by what the probing found
 rule_found : {W : Type 0} (C : Column W) (m : IntMemory C) (k : ℕ) (v : W) → sized_of (int_store C) m ≡ true → rule (int_store C) m k v ≡ rule_of (int_store C) m k v (probing m.marks m.keys k)
@@ -37,33 +38,33 @@ rule_found C m k v f =
     rule_probed (int_store C) m k (probing_path C m k a) v
 
 -- a set's, end by end
-module _ (marks keys : List ℕ) (k : ℕ) (f : sized_of sets (set_memory marks keys) ≡ true) {r : Probed} (p : r ≡ probing marks keys k) where
+module _ (marks keys : List ℕ) (k : ℕ) (f : sized_of sets (set_memory marks keys) ≡ true) {r : Result Probed Refusal} (p : r ≡ probing marks keys k) where
   set_found : rule sets (set_memory marks keys) k tt ≡ rule_of sets (set_memory marks keys) k tt r
   set_found = rw p (rule_found nothing (set_memory marks keys) k tt f)
 
-  pub store_hit : {s e : ℕ} → r ≡ Hit s e → (set_memory marks keys ≡ rule sets (set_memory marks keys) k tt) × (s ≡ slot_by (length marks) (probing marks keys k))
+  pub store_hit : {y : Probed} {s e : ℕ} → r ≡ Ok y → y ≡ Hit s e → (set_memory marks keys ≡ rule sets (set_memory marks keys) k tt) × (s ≡ slot_by (length marks) (probing marks keys k))
   unfolding slot_by
-  store_hit q = (rw (set_found, q), rw (← p, q))
+  store_hit q h = (rw (set_found, q, h), rw (← p, q, h))
 
-  pub store_free : {s e : ℕ} → r ≡ Free s e → (set_memory (set marks s 1) (set keys s k) ≡ rule sets (set_memory marks keys) k tt) × (s ≡ slot_by (length marks) (probing marks keys k))
+  pub store_free : {y : Probed} {s e : ℕ} → r ≡ Ok y → y ≡ Free s e → (set_memory (set marks s 1) (set keys s k) ≡ rule sets (set_memory marks keys) k tt) × (s ≡ slot_by (length marks) (probing marks keys k))
   unfolding slot_by
-  store_free q = (rw (set_found, q), rw (← p, q))
+  store_free q h = (rw (set_found, q, h), rw (← p, q, h))
 
-  pub store_full : {e : ℕ} → r ≡ Full e → (set_memory marks keys ≡ rule sets (set_memory marks keys) k tt) × (length marks ≡ slot_by (length marks) (probing marks keys k))
+  pub store_full : {y : Probed} {e : ℕ} → r ≡ Ok y → y ≡ Full e → (set_memory marks keys ≡ rule sets (set_memory marks keys) k tt) × (length marks ≡ slot_by (length marks) (probing marks keys k))
   unfolding slot_by
-  store_full q = (rw (set_found, q), rw (← p, q))
+  store_full q h = (rw (set_found, q, h), rw (← p, q, h))
 
-  pub store_refused : {x : Refusal} → r ≡ Refused x → (set_memory marks keys ≡ rule sets (set_memory marks keys) k tt) × (length marks ≡ slot_by (length marks) (probing marks keys k))
+  pub store_refused : {x : Refusal} → r ≡ Err x → (set_memory marks keys ≡ rule sets (set_memory marks keys) k tt) × (length marks ≡ slot_by (length marks) (probing marks keys k))
   unfolding slot_by
   store_refused q = (rw (set_found, q), rw (← p, q))
 
 -- a map's is the set's, with the value in the key's slot
-map_found : (marks keys vs : List ℕ) (k v : ℕ) → length vs ≡ length marks → (r : Probed) → memory (rule_of sets (set_memory marks keys) k tt r).marks (rule_of sets (set_memory marks keys) k tt r).keys (set vs (slot_by (length marks) r) v) ≡ rule_of maps (memory marks keys vs) k v r
+map_found : (marks keys vs : List ℕ) (k v : ℕ) → length vs ≡ length marks → (r : Result Probed Refusal) → memory (rule_of sets (set_memory marks keys) k tt r).marks (rule_of sets (set_memory marks keys) k tt r).keys (set vs (slot_by (length marks) r) v) ≡ rule_of maps (memory marks keys vs) k v r
 unfolding slot_by
-map_found marks keys vs k v l (Hit s e) = refl
-map_found marks keys vs k v l (Free s e) = refl
-map_found marks keys vs k v l (Full e) = ap (λ ws. memory marks keys ws) (set_out vs (length marks) v (omega arith))
-map_found marks keys vs k v l (Refused x) = ap (λ ws. memory marks keys ws) (set_out vs (length marks) v (omega arith))
+map_found marks keys vs k v l (Ok (Hit s e)) = refl
+map_found marks keys vs k v l (Ok (Free s e)) = refl
+map_found marks keys vs k v l (Ok (Full e)) = ap (λ ws. memory marks keys ws) (set_out vs (length marks) v (omega arith))
+map_found marks keys vs k v l (Err x) = ap (λ ws. memory marks keys ws) (set_out vs (length marks) v (omega arith))
 
 module _ (marks keys vs : List ℕ) (f : sized_of maps (memory marks keys vs) ≡ true) where
   -- the keys alone are of right sizes

@@ -13,34 +13,33 @@ ghost use Rattle.int_slots.specs.Sets.{sets, memory as set_memory, before as set
 ghost use Rattle.int_slots.specs.Probing.{probing};
 
 use int_slots::probe;
-use kinds::Probed;
+use kinds::{Mark, Probed};
 
 // The insert rule with no test: the first free slot of the key's path takes it, where it is absent. The slot that has the key then; S where none was free.
 pub fn store(marks: &mut [u8], keys: &mut [u64], key: u64) -> usize
     requires { sized_of sets (set_memory marks.old keys.old) ≡ true }
     ensures { (set_after marks.new keys.new ≡ rule sets (set_before marks.old keys.old) key tt) × (result ≡ slot_by (length marks.old) (probing marks.old keys.old key)) }
 {
-    let seen = probe(marks, keys, key);
-    match seen {
-        Probed::Hit(slot, _) => slot,
-        Probed::Free(slot, _) => {
-            marks[slot] = 1;
+    match probe(marks, keys, key) {
+        Ok(Probed::Hit(slot, _)) => slot,
+        Ok(Probed::Free(slot, _)) => {
+            marks[slot] = Mark::Live as u8;
             keys[slot] = key;
             slot
         }
-        Probed::Full(_) => marks.len(),
-        Probed::Refused(_) => marks.len(),
+        Ok(Probed::Full(_)) => marks.len(),
+        Err(_) => marks.len(),
     }
 }
 
 // The insert rule for a slot with this mark and key, where it is live.
+#[tactic(auto, using(kinds::proofs::Uniting::slot_live, kinds::proofs::Uniting::slot_idle))]
 pub fn store_slot(marks: &mut [u8], keys: &mut [u64], mark: u8, key: u64)
     requires { sized_of sets (set_memory marks.old keys.old) ≡ true }
     ensures { set_after marks.new keys.new ≡ slot_stored sets (set_before marks.old keys.old) (cell mark key tt) }
 {
-    if mark == 1 {
+    if mark == Mark::Live as u8 {
         store(marks, keys, key);
-        return;
     }
 }
 
@@ -49,10 +48,8 @@ pub fn store_all(marks: &mut [u8], keys: &mut [u64], right_marks: &[u8], right_k
     requires { (sized_of sets (set_memory marks.old keys.old) ≡ true) × (length right_keys.now ≡ length right_marks.now) }
     ensures { set_after marks.new keys.new ≡ all_stored sets (set_before marks.old keys.old) (set_before right_marks.now right_keys.now) (length right_marks.now) }
 {
-    let mut i = 0;
-    while i < right_marks.len() {
+    for i in 0..right_marks.len() {
         store_slot(marks, keys, right_marks[i], right_keys[i]);
-        i += 1;
     }
 }
 
@@ -68,6 +65,7 @@ pub fn map_store(marks: &mut [u8], keys: &mut [u64], values: &mut [u64], key: u6
 }
 
 // The same for a slot with this mark, key and value, where it is live.
+#[tactic(auto, using(kinds::proofs::Uniting::slot_live, kinds::proofs::Uniting::slot_idle))]
 pub fn map_store_slot(
     marks: &mut [u8],
     keys: &mut [u64],
@@ -79,9 +77,8 @@ pub fn map_store_slot(
     requires { sized_of maps (memory marks.old keys.old values.old) ≡ true }
     ensures { after marks.new keys.new values.new ≡ slot_stored maps (before marks.old keys.old values.old) (cell mark key value) }
 {
-    if mark == 1 {
+    if mark == Mark::Live as u8 {
         map_store(marks, keys, values, key, value);
-        return;
     }
 }
 
@@ -97,8 +94,7 @@ pub fn map_store_all(
     requires { (sized_of maps (memory marks.old keys.old values.old) ≡ true) × (length right_keys.now ≡ length right_marks.now) × (length right_values.now ≡ length right_marks.now) }
     ensures { after marks.new keys.new values.new ≡ all_stored maps (before marks.old keys.old values.old) (before right_marks.now right_keys.now right_values.now) (length right_marks.now) }
 {
-    let mut i = 0;
-    while i < right_marks.len() {
+    for i in 0..right_marks.len() {
         map_store_slot(
             marks,
             keys,
@@ -107,6 +103,5 @@ pub fn map_store_all(
             right_keys[i],
             right_values[i],
         );
-        i += 1;
     }
 }

@@ -4,10 +4,12 @@ use mathlib.Core.Path.{◌≡◌, refl}
 use Rattle.model.specs.Calls.{capacity, length, any_damage, reserve, get}
 use Rattle.model.specs.Store.{Store, live_count, used, damaged_slots}
 use Rattle.answers.specs.Said.{contained_said}
-use Rattle.kinds.specs.declared.Probed.{Probed}
-use Rattle.kinds.specs.declared.Probed.TheVariants.{Hit, Free, Full, Refused}
 use Rattle.kinds.specs.Calls.{capacity_of, len_of, is_empty_of, reserve_of, contains_of}
 use Rattle.kinds.proofs.Bridge.{seen_of}
+use Rattle.std.specs.Prelude.{Result, Ok, Err}
+use Rattle.answers.specs.declared.Refusal.{Refusal}
+use Rattle.kinds.specs.declared.Probed.{Probed}
+use Rattle.kinds.specs.declared.Probed.TheVariants.{Hit, Free, Full}
 
 -- Two tables of the same marks and keys, whatever stands beside them: equal sizes, damage, length and weight.
 pub record Beside {K W U : Type 0} (M : Store K W) (N : Store K U) (m : M.State) (n : N.State) : Type 0 where
@@ -37,13 +39,13 @@ module _ {K W U : Type 0} (M : Store K W) (N : Store K U) {m : M.State} {n : N.S
   reserve_beside k w = rw (b.sized, b.size, b.damage, b.lives, b.bytes, b.full_damage, b.weighs)
 
 -- contains, by what one probing found in both
-contained_alike : {W U : Type 0} (v : ℕ → W) (u : ℕ → U) (x : Probed) → contained_said (seen_of u x) ≡ contained_said (seen_of v x)
+contained_alike : {W U : Type 0} (v : ℕ → W) (u : ℕ → U) (x : Result Probed Refusal) → contained_said (seen_of u x) ≡ contained_said (seen_of v x)
 unfolding contained_said
-contained_alike v u (Hit s e) = refl
-contained_alike v u (Free s e) = refl
-contained_alike v u (Full e) = refl
-contained_alike v u (Refused x) = refl
+contained_alike v u (Ok (Hit s e)) = refl
+contained_alike v u (Ok (Free s e)) = refl
+contained_alike v u (Ok (Full e)) = refl
+contained_alike v u (Err x) = refl
 
-pub contains_beside : {K W U : Type 0} (M : Store K W) (N : Store K U) (m : M.State) (n : N.State) (k : K) (v : ℕ → W) (u : ℕ → U) (x : Probed) → get M m k ≡ seen_of v x → get N n k ≡ seen_of u x → contains_of N n k ≡ contains_of M m k
+pub contains_beside : {K W U : Type 0} (M : Store K W) (N : Store K U) (m : M.State) (n : N.State) (k : K) (v : ℕ → W) (u : ℕ → U) (x : Result Probed Refusal) → get M m k ≡ seen_of v x → get N n k ≡ seen_of u x → contains_of N n k ≡ contains_of M m k
 unfolding contains_of
 contains_beside M N m n k v u x p q = rw (p, q) (contained_alike v u x)

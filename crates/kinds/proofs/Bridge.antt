@@ -4,6 +4,7 @@
 use Prim.Native.Nat.{ℕ, zero, suc, ◌+◌, ◌-◌, ◌≤◌, ◌<◌}
 use mathlib.Core.Bool.{Bool, true, false, cond}
 use mathlib.Core.Path.{◌≡◌, refl, sym, ◌∙◌, ap, fun_ext}
+use mathlib.Core.Logic.{◌⊎◌, inl, inr}
 use native.Mathlib.Omega.{arith}
 use lib.Dec.{ltb, leb}
 use Rattle.model.specs.Slots.{Slot, never, freed, damaged, live, Keys, is_damaged, weigh, total, count, any_damaged, frees}
@@ -15,34 +16,38 @@ use Rattle.model.proofs.Cases.{by_bool, by_lt, clash}
 use Rattle.model.proofs.Path.{at_below, hit_at, from_low, from_here}
 use Rattle.model.proofs.Slots.{count_high}
 use Rattle.answers.specs.Refusals.{number_of}
-use Rattle.kinds.specs.declared.Probed.{Probed}
-use Rattle.kinds.specs.declared.Probed.TheVariants.{Hit, Free, Full, Refused}
-use Rattle.kinds.specs.declared.Scanned.{Scanned}
-use Rattle.kinds.specs.declared.Scanned.TheVariants as scanned
-use Rattle.kinds.specs.declared.Next.{Next}
-use Rattle.kinds.specs.declared.Next.TheVariants as next
 use Rattle.kinds.specs.Marks.{cell, cells_of, keys_only, marks_only}
 use Rattle.kinds.specs.Probing.{along}
 use Rattle.kinds.specs.Scanning.{scanning_of, next_at, nexting_of}
 use Rattle.kinds.specs.Stepping.{ahead_by, stepped_by}
+use Rattle.std.specs.Prelude.{Result, Ok, Err, Option, Some}
+use Rattle.answers.specs.declared.Refusal.{Refusal}
+use Rattle.kinds.specs.declared.Probed.{Probed}
+use Rattle.kinds.specs.declared.Probed.TheVariants.{Hit, Free, Full}
+use Rattle.answers.specs.declared.Refusal.TheVariants as refusal
 
 -- What a lookup answers where the probing ended so; `read` gives the value at a slot.
-abbrev pub seen_of : {W : Type 0} → (ℕ → W) → Probed → Or (Seen W)
-seen_of read (Hit s e) = ok (found (read s) s e)
-seen_of read (Free s e) = ok (absent e)
-seen_of read (Full e) = ok (absent e)
-seen_of read (Refused x) = no (number_of x)
+abbrev pub seen_of : {W : Type 0} → (ℕ → W) → Result Probed Refusal → Or (Seen W)
+seen_of read (Ok (Hit s e)) = ok (found (read s) s e)
+seen_of read (Ok (Free s e)) = ok (absent e)
+seen_of read (Ok (Full e)) = ok (absent e)
+seen_of read (Err x) = no (number_of x)
 
 -- What entry and insert answer, where the key's bytes fit or not.
-abbrev pub spot_in : {W : Type 0} → Bool → (ℕ → W) → Probed → Or (Spot W)
-spot_in room read (Hit s e) = ok (occupied s (read s) e)
-spot_in room read (Free s e) = cond room (ok (vacant s e)) (no 8)
-spot_in room read (Full e) = no 7
-spot_in room read (Refused x) = no (number_of x)
+abbrev pub spot_in : {W : Type 0} → Bool → (ℕ → W) → Result Probed Refusal → Or (Spot W)
+spot_in room read (Ok (Hit s e)) = ok (occupied s (read s) e)
+spot_in room read (Ok (Free s e)) = cond room (ok (vacant s e)) (no 8)
+spot_in room read (Ok (Full e)) = no 7
+spot_in room read (Err x) = no (number_of x)
 
 -- The same where keys take no arena bytes.
-abbrev pub spot_of : {W : Type 0} → (ℕ → W) → Probed → Or (Spot W)
+abbrev pub spot_of : {W : Type 0} → (ℕ → W) → Result Probed Refusal → Or (Spot W)
 spot_of read p = spot_in true read p
+
+-- A path that ended without the key, at a free slot or at none: a lookup answers that it is absent.
+pub absent_by : {W : Type 0} (read : ℕ → W) {p : Probed} {e : ℕ} → ((x : ℕ) × (p ≡ Free x e)) ⊎ (p ≡ Full e) → seen_of read (Ok p) ≡ ok (absent e)
+absent_by read (inl (x, q)) = rw q
+absent_by read (inr q) = rw q
 
 -- what holds of each kind of slot, whatever its key and value, holds of each mark
 same_cell : {K L W : Type 0} {a : K} {b : L} {v : W} (P : Slot K W → Slot L (Unit {0}) → Type 0) → P never never → P freed freed → P damaged damaged → P (live a v) (live b tt) → (m : ℕ) → P (cell m a v) (cell m b tt)
@@ -136,7 +141,7 @@ module _ {K W : Type 0} (mark : ℕ → ℕ) (key : ℕ → K) (v : ℕ → W) w
       (λ l e. rw (e, d)))
 
 -- a stretch that ended at a live slot ended there
-at_live : {K W : Type 0} (x j : ℕ) (s : Slot K W) → next_at x s ≡ next.Live j → x ≡ j
+at_live : {K W : Type 0} (x j : ℕ) (s : Slot K W) → next_at x s ≡ Ok (Some j) → x ≡ j
 unfolding next_at
 at_live x j never e = clash cc
 at_live x j freed e = clash cc
@@ -144,7 +149,7 @@ at_live x j damaged e = clash cc
 at_live x j (live a v) e = cc
 
 -- a live slot that the stretch from w to e gives is in it
-pub next_inside : (mark : ℕ → ℕ) (w e : ℕ) {r : Next} {j : ℕ} → r ≡ nexting_of mark w e → r ≡ next.Live j → (w ≤ j) × (j < e)
+pub next_inside : (mark : ℕ → ℕ) (w e : ℕ) {r : Result (Option ℕ) Refusal} {j : ℕ} → r ≡ nexting_of mark w e → r ≡ Ok (Some j) → (w ≤ j) × (j < e)
 unfolding nexting_of
 next_inside mark w e {r} {j} p q =
     let x = from (λ i. halts (marks_only mark i)) (e - w) w in
@@ -162,24 +167,24 @@ module _ {K W : Type 0} (M : Store K W) (m : M.State) (k : K) (inside : M.home m
   unfolding path
   hit_inside n v e = slot_inside n (hit_at M.keys (M.size m) (M.home m k) (M.slots m) k n v e).0
 
-  along_hit : (x : Find W) → path M m k ≡ x → {s e : ℕ} → along (M.size m) (M.home m k) x ≡ Hit s e → s < M.size m
+  along_hit : (x : Find W) → path M m k ≡ x → {s e : ℕ} → along (M.size m) (M.home m k) x ≡ Ok (Hit s e) → s < M.size m
   unfolding along slot_at
   along_hit (hit n v) q {s} {e} w = let z : slot_at M m k n ≡ s = cc in omega (arith, hit_inside n v q)
   along_hit (miss e f) q w = by_bool (ltb f (M.size m)) (λ t. clash (cc (rw t at w))) (λ t. clash (cc (rw t at w)))
   along_hit damage q w = clash cc
 
-  along_free : (x : Find W) → {s e : ℕ} → along (M.size m) (M.home m k) x ≡ Free s e → s < M.size m
+  along_free : (x : Find W) → {s e : ℕ} → along (M.size m) (M.home m k) x ≡ Ok (Free s e) → s < M.size m
   unfolding along slot_at
   along_free (hit n v) w = clash cc
   along_free (miss e' f) {s} {e} w = by_lt f (M.size m)
-      (λ l t. let u : Free (slot_at M m k f) e' ≡ Free s e = rw t at w in let z : slot_at M m k f ≡ s = cc in omega (arith, slot_inside f l))
+      (λ l t. let u : Ok (Free (slot_at M m k f) e') ≡ Ok (Free s e) = rw t at w in let z : slot_at M m k f ≡ s = cc in omega (arith, slot_inside f l))
       (λ l t. clash (cc (rw t at w)))
   along_free damage w = clash cc
 
-  pub hit_below : {s e : ℕ} → along (M.size m) (M.home m k) (path M m k) ≡ Hit s e → s < M.size m
+  pub hit_below : {s e : ℕ} → along (M.size m) (M.home m k) (path M m k) ≡ Ok (Hit s e) → s < M.size m
   hit_below w = along_hit (path M m k) refl w
 
-  pub free_below : {s e : ℕ} → along (M.size m) (M.home m k) (path M m k) ≡ Free s e → s < M.size m
+  pub free_below : {s e : ℕ} → along (M.size m) (M.home m k) (path M m k) ≡ Ok (Free s e) → s < M.size m
   free_below w = along_free (path M m k) w
 
 -- a store whose slots stand by marks, keys and values
@@ -219,18 +224,18 @@ module _ {K W : Type 0} (M : Store K W) (m : M.State) (mark : ℕ → ℕ) (key 
     spot_path = spot_along (path M m k) refl
 
   -- the scan is the store's own damage and length
-  pub scanning_cells : scanning_of mark (M.size m) ≡ cond (damaged_slots M m) scanned.Damaged (scanned.Live (live_count M m))
+  pub scanning_cells : scanning_of mark (M.size m) ≡ cond (damaged_slots M m) (Err refusal.Damaged) (Ok (live_count M m))
   unfolding scanning_of damaged_slots live_count
   scanning_cells = rw (stand, damaged_cells mark key v (M.size m), count_cells mark key v (M.size m))
 
-  module _ {r : Scanned} (p : r ≡ scanning_of mark (M.size m)) where
-    pub scan_bad : r ≡ scanned.Damaged → damaged_slots M m ≡ true
+  module _ {r : Result ℕ Refusal} (p : r ≡ scanning_of mark (M.size m)) where
+    pub scan_bad : r ≡ Err refusal.Damaged → damaged_slots M m ≡ true
     scan_bad q = by_bool (damaged_slots M m) (λ h. h) (λ h. clash (cc (rw h at scanning_cells)))
 
-    pub scan_live : {n : ℕ} → r ≡ scanned.Live n → (damaged_slots M m ≡ false) × (live_count M m ≡ n) × (n ≤ M.size m)
+    pub scan_live : {n : ℕ} → r ≡ Ok n → (damaged_slots M m ≡ false) × (live_count M m ≡ n) × (n ≤ M.size m)
     unfolding live_count
     scan_live {n} q = by_bool (damaged_slots M m)
         (λ h. clash (cc (rw h at scanning_cells)))
-        (λ h. let w : scanned.Live n ≡ scanned.Live (live_count M m) = sym q ∙ p ∙ (rw h at scanning_cells) in
+        (λ h. let w : Ok n ≡ Ok (live_count M m) = sym q ∙ p ∙ (rw h at scanning_cells) in
         let z : live_count M m ≡ n = cc in
         (h, z, omega (arith, count_high (M.slots m) (M.size m))))

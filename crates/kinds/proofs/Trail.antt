@@ -1,7 +1,7 @@
 -- The probing loop, slot by slot, is the path; and what each look at a slot says of the rest.
 use Prim.Native.Nat.{ℕ, zero, suc, ◌+◌, ◌-◌, ◌≤◌, ◌<◌}
 use mathlib.Core.Bool.{cond}
-use mathlib.Core.Path.{◌≡◌, refl, ◌∙◌}
+use mathlib.Core.Path.{◌≡◌, refl}
 use native.Mathlib.Numerals.{add-one}
 use native.Mathlib.Omega.{arith}
 use borrow.Author.Tests.{lt-ltb, le-ltb}
@@ -10,13 +10,14 @@ use Rattle.model.specs.Slots.{Keys}
 use Rattle.model.specs.Path as path
 use Rattle.model.proofs.Cases.{by_bool, by_lt}
 use Rattle.model.proofs.Path.{at_below, probe_find}
-use Rattle.answers.specs.declared.Refusal.TheVariants as refusal
-use Rattle.kinds.specs.declared.Sight.TheVariants.{Never, Freed, Damaged, Same, Other}
-use Rattle.kinds.specs.declared.Sight.{Sight}
-use Rattle.kinds.specs.declared.Probed.{Probed}
-use Rattle.kinds.specs.declared.Probed.TheVariants.{Hit, Refused}
 use Rattle.kinds.specs.Marks.{cell, keys_only}
 use Rattle.kinds.specs.Probing.{look_at, look_of, first_free, next_slot, ended, along, on_sight, trail}
+use Rattle.std.specs.Prelude.{Result, Ok, Err}
+use Rattle.answers.specs.declared.Refusal.{Refusal}
+use Rattle.kinds.specs.declared.Probed.{Probed}
+use Rattle.kinds.specs.declared.Probed.TheVariants.{Hit}
+use Rattle.kinds.specs.declared.Sight.TheVariants.{Never, Freed, Same, Other}
+use Rattle.kinds.specs.declared.Sight.{Sight}
 
 -- the slot of the first free place, S where there is none
 unfoldable slot_free : ℕ → ℕ → ℕ → ℕ
@@ -35,7 +36,7 @@ module _ (S h : ℕ) (inside : h < S) where
       (λ b d. rw (d, le-ltb (h + suc n) S (omega arith)) (omega arith))))
       (λ a e. rw (e, lt-ltb (h + n - S + 1) S (omega arith), le-ltb (h + suc n) S (omega arith)) (omega arith))
 
-  free_end : (f e : ℕ) → ended S (slot_free S h f) e ≡ along {W = Unit {0}} S h (path.miss e f)
+  free_end : (f e : ℕ) → Ok (ended S (slot_free S h f) e) ≡ along {W = Unit {0}} S h (path.miss e f)
   unfolding slot_free ended along
   free_end f e = by_lt f S
       (λ l q. rw (q, lt-ltb (path.at S h f) S (at_below S h f inside l)))
@@ -48,7 +49,7 @@ module _ (S h : ℕ) (inside : h < S) where
       (λ a q. rw (q, le-ltb S S (omega arith), lt-ltb n S l))
 
   module _ {K : Type 0} (E : Keys K) (k : K) where
-    one_slot : (n f : ℕ) → n < S → (mark : ℕ) (held : K) (r : ℕ → Probed) (q : ℕ → path.Find (Unit {0}))
+    one_slot : (n f : ℕ) → n < S → (mark : ℕ) (held : K) (r : ℕ → Result Probed Refusal) (q : ℕ → path.Find (Unit {0}))
         → ((x : ℕ) → r (slot_free S h x) ≡ along S h (q x))
         → on_sight S (path.at S h n) n (slot_free S h f) (look_of E k mark held) r ≡ along S h (path.on_slot E S k n f (cell mark held tt) q)
     unfolding look_of look_at cell on_sight path.on_slot along
@@ -84,7 +85,7 @@ module _ {K : Type 0} (E : Keys K) (mark : ℕ → ℕ) (key : ℕ → K) where
   turn S k slot n free l = let e : S - n ≡ suc (S - (n + 1)) = omega arith in rw (e, add-one)
 
   -- the loop's state: the rest of the trail gives the whole answer
-  pub record OnTrail (S : ℕ) (k : K) (slot n free : ℕ) (a : Probed) : Type 0 where
+  pub record OnTrail (S : ℕ) (k : K) (slot n free : ℕ) (a : Result Probed Refusal) : Type 0 where
     pub inside : slot < S
     pub within : n ≤ S
     pub gives : trail E mark key S k (S - n) slot n free ≡ a
@@ -93,31 +94,31 @@ module _ {K : Type 0} (E : Keys K) (mark : ℕ → ℕ) (key : ℕ → K) where
   pub at_home : (S : ℕ) (k : K) (h : ℕ) → h < S → OnTrail S k h 0 S (along S h (path.find E S h (keys_only mark key) k))
   at_home S k h l = record { inside = l; within = omega arith; gives = let e : S - 0 ≡ S = omega arith in rw e (trail_find S h l E k mark key) }
 
-module _ {K : Type 0} {E : Keys K} {mark : ℕ → ℕ} {key : ℕ → K} {S : ℕ} {k : K} {slot n free : ℕ} {a : Probed} (w : OnTrail E mark key S k slot n free a) where
+module _ {K : Type 0} {E : Keys K} {mark : ℕ → ℕ} {key : ℕ → K} {S : ℕ} {k : K} {slot n free : ℕ} {a : Result Probed Refusal} (w : OnTrail E mark key S k slot n free a) where
   -- every slot was examined
-  pub round : {r : Probed} → n ≡ S → r ≡ ended S free n → r ≡ a
+  pub round : {r : Probed} → n ≡ S → r ≡ ended S free n → Ok r ≡ a
   unfolding trail
-  round e q = let z : S - n ≡ 0 = omega arith in q ∙ (rw z at w.gives)
+  round e q = let z : S - n ≡ 0 = omega arith in rw q (rw z at w.gives)
 
-  module _ {x : Sight} (l : n < S) (look : x ≡ look_of E k (mark slot) (key slot)) where
+  module _ {x : Result Sight Refusal} (l : n < S) (look : x ≡ look_of E k (mark slot) (key slot)) where
     -- a slot that was never used
-    pub on_never : {f : ℕ} {r : Probed} → x ≡ Never → f ≡ first_free S free slot → r ≡ ended S f (n + 1) → r ≡ a
+    pub on_never : {f : ℕ} {r : Probed} → x ≡ Ok Never → f ≡ first_free S free slot → r ≡ ended S f (n + 1) → Ok r ≡ a
     unfolding on_sight
     on_never e p q = rw (q, p, add-one, ← w.gives, turn E mark key S k slot n free l, ← look, e)
 
     -- a damaged slot
-    pub on_bad : x ≡ Damaged → Refused refusal.Damaged ≡ a
+    pub on_bad : {y : Refusal} → x ≡ Err y → Err y ≡ a
     unfolding on_sight
     on_bad e = rw (← w.gives, turn E mark key S k slot n free l, ← look, e)
 
     -- the key's slot
-    pub on_same : x ≡ Same → Hit slot (n + 1) ≡ a
+    pub on_same : x ≡ Ok Same → Ok (Hit slot (n + 1)) ≡ a
     unfolding on_sight
     on_same e = rw (← w.gives, turn E mark key S k slot n free l, ← look, e, add-one)
 
     -- any other slot: the rest of the path
     module _ {f s : ℕ} (q : s ≡ next_slot S slot) where
-      onwards : ((r : ℕ → Probed) → r f ≡ on_sight S slot n free x r) → OnTrail E mark key S k s (n + 1) f a
+      onwards : ((r : ℕ → Result Probed Refusal) → r f ≡ on_sight S slot n free x r) → OnTrail E mark key S k s (n + 1) f a
       onwards go = record {
         inside = rw q (next_below S slot w.inside);
         within = omega arith;
@@ -125,11 +126,11 @@ module _ {K : Type 0} {E : Keys K} {mark : ℕ → ℕ} {key : ℕ → K} {S : �
       }
 
       -- a freed slot
-      pub on_freed : x ≡ Freed → f ≡ first_free S free slot → OnTrail E mark key S k s (n + 1) f a
+      pub on_freed : x ≡ Ok Freed → f ≡ first_free S free slot → OnTrail E mark key S k s (n + 1) f a
       unfolding on_sight
       on_freed e p = onwards (λ r. rw (e, p))
 
       -- a live slot with another key
-      pub on_other : x ≡ Other → f ≡ free → OnTrail E mark key S k s (n + 1) f a
+      pub on_other : x ≡ Ok Other → f ≡ free → OnTrail E mark key S k s (n + 1) f a
       unfolding on_sight
       on_other e p = onwards (λ r. rw (e, p))

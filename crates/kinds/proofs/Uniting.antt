@@ -8,18 +8,20 @@ use Rattle.model.specs.Path.{Find, hit, miss, damage}
 use Rattle.model.specs.Store.{Store, path, slot_at}
 use Rattle.model.specs.Calls.{missed, lacking, rule_by, rule, store_all}
 use Rattle.model.proofs.Cases.{by_bool}
-use Rattle.kinds.specs.declared.Probed.{Probed}
-use Rattle.kinds.specs.declared.Probed.TheVariants.{Hit, Free, Full, Refused}
 use Rattle.kinds.specs.Marks.{cell}
 use Rattle.kinds.specs.Probing.{along, missed_of}
 use Rattle.kinds.specs.Stores.{slot_in, slot_stored, all_stored}
+use Rattle.std.specs.Prelude.{Result, Ok, Err}
+use Rattle.answers.specs.declared.Refusal.{Refusal}
+use Rattle.kinds.specs.declared.Probed.{Probed}
+use Rattle.kinds.specs.declared.Probed.TheVariants.{Hit, Free, Full}
 
 -- What the rule leaves where the probing of the key ended so.
-abbrev pub rule_of : {K W : Type 0} (M : Store K W) → M.State → K → W → Probed → M.State
-rule_of M m k v (Hit s e) = M.over m s v
-rule_of M m k v (Free s e) = M.fill m s k v
-rule_of M m k v (Full e) = m
-rule_of M m k v (Refused r) = m
+abbrev pub rule_of : {K W : Type 0} (M : Store K W) → M.State → K → W → Result Probed Refusal → M.State
+rule_of M m k v (Ok (Hit s e)) = M.over m s v
+rule_of M m k v (Ok (Free s e)) = M.fill m s k v
+rule_of M m k v (Ok (Full e)) = m
+rule_of M m k v (Err r) = m
 
 module _ {K W : Type 0} (M : Store K W) (m : M.State) (k : K) where
   missed_along : (S h : ℕ) (x : Find W) → missed M x ≡ missed_of (along S h x)
@@ -35,7 +37,7 @@ module _ {K W : Type 0} (M : Store K W) (m : M.State) (k : K) where
   rule_along v damage = refl
 
   -- where the probing answered the key's path, in slots
-  module _ {r : Probed} (p : r ≡ along (M.size m) (M.home m k) (path M m k)) where
+  module _ {r : Result Probed Refusal} (p : r ≡ along (M.size m) (M.home m k) (path M m k)) where
     pub lacking_probed : lacking M m k ≡ missed_of r
     unfolding lacking
     lacking_probed = rw p (missed_along (M.size m) (M.home m k) (path M m k))

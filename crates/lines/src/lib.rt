@@ -7,7 +7,7 @@ ghost use Rattle.lines.specs.Reader.{grown_of, more_of, number_of, spaced_of, jo
 ghost use Rattle.lines.specs.Decimal.{decimal_of};
 
 // What a line asks for.
-#[derive(Drop)]
+#[derive(Clone, Copy, Debug, PartialEq, Eq)]
 pub enum Order {
     // `i K V`
     Insert(u64, u64),
@@ -24,7 +24,7 @@ pub enum Order {
 }
 
 // What the bytes of a word are so far, read as a decimal number.
-#[derive(Drop)]
+#[derive(Clone, Copy, Debug, PartialEq, Eq)]
 pub enum Digits {
     Empty,
     Number(u64),
@@ -33,7 +33,7 @@ pub enum Digits {
 }
 
 // How far a line has been read.
-#[derive(Drop)]
+#[derive(Clone, Copy, Debug, PartialEq, Eq)]
 pub enum Reading {
     // no byte yet
     Start,
@@ -49,21 +49,18 @@ pub enum Reading {
     Lost,
 }
 
-// The number with one byte more at its end. The test for overflow comes before the product.
+// The number with one byte more at its end, where that is a digit and the number still fits.
+#[tactic(auto, unfolding(crate::specs::Grammar::limit))]
 fn grown(n: u64, byte: u8) -> Digits
     ensures { result ≡ grown_of n byte }
 {
-    if byte < b'0' {
+    if !byte.is_ascii_digit() {
         return Digits::Broken;
     }
-    if b'9' < byte {
-        return Digits::Broken;
-    }
-    let digit = (byte - b'0') as u64;
-    if n <= (18446744073709551615 - digit) / 10 {
-        Digits::Number(n * 10 + digit)
-    } else {
-        Digits::Broken
+    let digit = u64::from(byte - b'0');
+    match n.checked_mul(10).and_then(|tens| tens.checked_add(digit)) {
+        Some(more) => Digits::Number(more),
+        None => Digits::Broken,
     }
 }
 
@@ -84,18 +81,10 @@ impl Digits {
 fn keyed(letter: u8, key: Digits) -> Order
     ensures { result ≡ key_order letter (number_of key) }
 {
-    match key {
-        Digits::Number(k) => {
-            if letter == b'r' {
-                return Order::Remove(k);
-            }
-            if letter == b'g' {
-                return Order::Get(k);
-            }
-            Order::Bad
-        }
-        Digits::Empty => Order::Bad,
-        Digits::Broken => Order::Bad,
+    match (letter, key) {
+        (b'r', Digits::Number(k)) => Order::Remove(k),
+        (b'g', Digits::Number(k)) => Order::Get(k),
+        _ => Order::Bad,
     }
 }
 
@@ -103,19 +92,9 @@ fn keyed(letter: u8, key: Digits) -> Order
 fn paired(letter: u8, key: Digits, value: Digits) -> Order
     ensures { result ≡ pair_order letter (number_of key) (number_of value) }
 {
-    match key {
-        Digits::Number(k) => match value {
-            Digits::Number(v) => {
-                if letter == b'i' {
-                    return Order::Insert(k, v);
-                }
-                Order::Bad
-            }
-            Digits::Empty => Order::Bad,
-            Digits::Broken => Order::Bad,
-        },
-        Digits::Empty => Order::Bad,
-        Digits::Broken => Order::Bad,
+    match (letter, key, value) {
+        (b'i', Digits::Number(k), Digits::Number(v)) => Order::Insert(k, v),
+        _ => Order::Bad,
     }
 }
 
@@ -125,8 +104,7 @@ fn counted(count: Digits) -> Order
 {
     match count {
         Digits::Number(n) => Order::Count(n),
-        Digits::Empty => Order::Bad,
-        Digits::Broken => Order::Bad,
+        Digits::Empty | Digits::Broken => Order::Bad,
     }
 }
 
@@ -150,12 +128,9 @@ impl Reading {
         ensures { result ≡ spaced_of self }
     {
         match self {
-            Reading::Start => Reading::Lost,
             Reading::Letter(c) => Reading::Key(c, Digits::Empty),
             Reading::Key(c, k) => Reading::Pair(c, k, Digits::Empty),
-            Reading::Pair(_, _, _) => Reading::Lost,
-            Reading::Alone(_) => Reading::Lost,
-            Reading::Lost => Reading::Lost,
+            Reading::Start | Reading::Pair(..) | Reading::Alone(_) | Reading::Lost => Reading::Lost,
         }
     }
 
@@ -165,11 +140,10 @@ impl Reading {
     {
         match self {
             Reading::Start => Reading::Letter(byte),
-            Reading::Letter(_) => Reading::Lost,
             Reading::Key(c, k) => Reading::Key(c, k.more(byte)),
             Reading::Pair(c, k, v) => Reading::Pair(c, k, v.more(byte)),
             Reading::Alone(n) => Reading::Alone(n.more(byte)),
-            Reading::Lost => Reading::Lost,
+            Reading::Letter(_) | Reading::Lost => Reading::Lost,
         }
     }
 
@@ -189,18 +163,17 @@ impl Reading {
         ensures { result ≡ order_of self }
     {
         match self {
-            Reading::Start => Order::Bad,
-            Reading::Letter(c) => { if c == b'w' { Order::Walk } else { Order::Bad } }
+            Reading::Letter(b'w') => Order::Walk,
             Reading::Key(c, k) => keyed(c, k),
             Reading::Pair(c, k, v) => paired(c, k, v),
             Reading::Alone(n) => counted(n),
-            Reading::Lost => Order::Bad,
+            Reading::Start | Reading::Letter(_) | Reading::Lost => Order::Bad,
         }
     }
 }
 
 // A number in decimal: its digits stand at the end of the array, from `from` on, behind zero bytes.
-#[derive(Drop)]
+#[derive(Clone, Copy, Debug, PartialEq, Eq)]
 pub struct Decimal {
     pub digits: [u8; 20],
     pub from: usize,
@@ -214,10 +187,11 @@ impl Decimal {
         let mut digits = [0u8; 20];
         let mut from: usize = 19;
         let mut rest = n;
+        // Kept as a loop: how many digits there are shows only when one is left.
         while 9 < rest {
             digits[from] = (48 + rest % 10) as u8;
-            rest = rest / 10;
-            from = from - 1;
+            rest /= 10;
+            from -= 1;
         }
         digits[from] = (48 + rest) as u8;
         Decimal { digits, from }

@@ -4,4 +4,4 @@ use Rattle.byte_arena.proofs.close_gap.Goals as goal
 
 pub returns : goal.returns
 returns c =
-    closed_end _ _ _ c.args.offset _ _ c.requires.0 c.requires.1 c.shift_down.ensures c.clear_bytes.ensures
+    closed_end _ _ _ c.args.offset _ _ c.requires.0 c.requires.1 c.shift_down.ensures (c.fill.ensures.after (λ y e. e))

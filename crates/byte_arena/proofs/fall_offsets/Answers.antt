@@ -1,5 +1,5 @@
 -- `byte_arena::fall_offsets` meets its contract. The invariant: the offsets of the first i slots fell, and the others wait. Assumes nothing.
-use borrow.Author.Rules.{rules}
+use Rattle.std.proofs.Common.{rules}
 use Rattle.byte_arena.proofs.Falling.{falling_all}
 use Rattle.byte_arena.proofs.fall_offsets.Goals as goal
 

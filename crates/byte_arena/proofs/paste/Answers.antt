@@ -4,4 +4,4 @@ use Rattle.byte_arena.proofs.paste.Goals as goal
 
 pub returns : goal.returns
 returns c =
-    pasted_end _ c.args.at _ _ c.requires c.copy_bytes.ensures
+    pasted_end _ c.args.at _ _ c.requires c.copy.ensures

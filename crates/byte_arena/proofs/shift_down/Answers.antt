@@ -1,5 +1,5 @@
--- `byte_arena::shift_down` meets its contract. The invariant: the first i bytes moved down. Assumes nothing.
-use borrow.Author.Rules.{rules}
+-- `byte_arena::shift_down` meets its contract: the first bytes moved down, one by one.
+use Rattle.std.proofs.Common.{rules}
 use Rattle.byte_arena.proofs.Lent.{moving_more, moving_all}
 use Rattle.byte_arena.proofs.shift_down.Goals as goal
 

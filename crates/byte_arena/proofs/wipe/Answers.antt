@@ -3,4 +3,4 @@ use Rattle.byte_arena.proofs.Lists.{wiped_lists}
 use Rattle.byte_arena.proofs.wipe.Goals as goal
 
 pub returns : goal.returns
-returns c = wiped_lists _ _ _ _ _ c.clear_bytes.ensures c.clear_shorts.ensures c.clear_bytes-2.ensures c.clear_bytes-3.ensures
+returns c = wiped_lists _ _ _ _ _ (c.fill.ensures.after (λ y e. e)) (c.fill-2.ensures.after (λ y e. e)) (c.fill-3.ensures.after (λ y e. e)) (c.fill-4.ensures.after (λ y e. e))

@@ -1,5 +1,5 @@
 -- `byte_map::insert` meets its contract: the value changes in the key's slot, or the first free slot takes the key.
-use native.Mathlib.Omega.{arith}
+use Rattle.std.proofs.Common.{Ok, rules, arith, ap, ◌∙◌}
 use Rattle.model.specs.Calls.{stored_by}
 use Rattle.answers.specs.Numbers.{stored_numbers}
 use Rattle.answers.specs.Said.{stored_said}
@@ -10,33 +10,33 @@ use Rattle.byte_map.proofs.Laws.{insert_fresh}
 use Rattle.byte_map.proofs.insert.Goals as goal
 
 pub offset_bounds-values-slot : goal.offset_bounds-values-slot
-offset_bounds-values-slot c = omega (arith, map_plan_insert_inside _ _ c.map_plan_insert-plan.ensures c.in-Hit.is)
+offset_bounds-values-slot c = omega (arith, map_plan_insert_inside _ _ c.map_plan_insert.ensures (c.in_ok-plan.was ∙ ap Ok c.in-Hit.is))
 
 pub bounds-values-slot : goal.bounds-values-slot
-bounds-values-slot c = map_plan_insert_inside _ _ c.map_plan_insert-plan.ensures c.in-Hit.is
+bounds-values-slot c = map_plan_insert_inside _ _ c.map_plan_insert.ensures (c.in_ok-plan.was ∙ ap Ok c.in-Hit.is)
 
 pub offset_bounds-values-slot-in-Hit : goal.offset_bounds-values-slot-in-Hit
-offset_bounds-values-slot-in-Hit c = omega (arith, map_plan_insert_inside _ _ c.map_plan_insert-plan.ensures c.in-Hit.is)
+offset_bounds-values-slot-in-Hit c = omega (arith, map_plan_insert_inside _ _ c.map_plan_insert.ensures (c.in_ok-plan.was ∙ ap Ok c.in-Hit.is))
 
 pub bounds-values-slot-in-Hit : goal.bounds-values-slot-in-Hit
-bounds-values-slot-in-Hit c = map_plan_insert_inside _ _ c.map_plan_insert-plan.ensures c.in-Hit.is
+bounds-values-slot-in-Hit c = map_plan_insert_inside _ _ c.map_plan_insert.ensures (c.in_ok-plan.was ∙ ap Ok c.in-Hit.is)
 
 pub fill-requires : goal.fill-requires
-fill-requires c = (map_plan_insert_free _ _ c.map_plan_insert-plan.ensures c.in-Free.is).0
+fill-requires c = (map_plan_insert_free _ _ c.map_plan_insert.ensures (c.in_ok-plan.was ∙ ap Ok c.in-Free.is)).0
 
 pub offset_bounds-values-slot-in-Free : goal.offset_bounds-values-slot-in-Free
-offset_bounds-values-slot-in-Free c = omega (arith, (map_plan_insert_free _ _ c.map_plan_insert-plan.ensures c.in-Free.is).1)
+offset_bounds-values-slot-in-Free c = omega (arith, (map_plan_insert_free _ _ c.map_plan_insert.ensures (c.in_ok-plan.was ∙ ap Ok c.in-Free.is)).1)
 
 pub bounds-values-slot-in-Free : goal.bounds-values-slot-in-Free
-bounds-values-slot-in-Free c = (map_plan_insert_free _ _ c.map_plan_insert-plan.ensures c.in-Free.is).1
+bounds-values-slot-in-Free c = (map_plan_insert_free _ _ c.map_plan_insert.ensures (c.in_ok-plan.was ∙ ap Ok c.in-Free.is)).1
 
 pub returns-in-Hit : goal.returns-in-Hit
 unfolding stored_numbers stored_said stored_by
-returns-in-Hit c = insert_says _ _ c.map_plan_insert-plan.ensures c.in-Hit.is _
+returns-in-Hit c = insert_says _ _ c.map_plan_insert.ensures (c.in_ok-plan.was ∙ ap Ok c.in-Hit.is) _
 
 pub returns-in-Free : goal.returns-in-Free
-returns-in-Free c = insert_fresh _ _ _ c.map_plan_insert-plan.ensures c.in-Free.is c.fill.ensures
+returns-in-Free c = insert_fresh _ _ _ c.map_plan_insert.ensures (c.in_ok-plan.was ∙ ap Ok c.in-Free.is) c.fill.ensures
 
-pub returns-in-Refused : goal.returns-in-Refused
+pub returns-in_err-plan : goal.returns-in_err-plan
 unfolding stored_numbers stored_said stored_by
-returns-in-Refused c = insert_says _ _ c.map_plan_insert-plan.ensures c.in-Refused.is _
+returns-in_err-plan c = let z = insert_says _ _ c.map_plan_insert.ensures c.in_err-plan.was c.args.value in search rules

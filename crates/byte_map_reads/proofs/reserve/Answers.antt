@@ -1,12 +1,12 @@
 -- `byte_map_reads::reserve` meets its contract: refusal 1 where the values do not fit, else what the keys' set tells.
-use mathlib.Core.Path.{◌∙◌}
+use Rattle.std.proofs.Common.{◌∙◌}
 use Rattle.byte_slots.specs.Kinds.{maps, sets}
 use Rattle.kinds.proofs.Beside.{reserve_beside}
 use Rattle.byte_map_reads.proofs.Laws.{as_set_law, reserve_short}
 use Rattle.byte_map_reads.proofs.reserve.Goals as goal
 
 pub returns-then-marks-values : goal.returns-then-marks-values
-returns-then-marks-values c = c.reserve.ensures ∙ reserve_beside maps sets (as_set_law _ c.if-marks-values.true) _ _
+returns-then-marks-values c = reserve_short _ c.if-marks-values.true _ _
 
 pub returns : goal.returns
-returns c = reserve_short _ c.if-marks-values.false _ _
+returns c = c.reserve.ensures ∙ reserve_beside maps sets (as_set_law _ c.if-marks-values.false) _ _

@@ -1,5 +1,5 @@
--- `byte_map_union::table_needs` meets its contract. The loop's invariant: the needs of the slots passed. The measure is how many are left.
-use borrow.Author.Rules.{rules}
+-- `byte_map_union::table_needs` meets its contract. The loop's invariant: the needs of the slots passed.
+use Rattle.std.proofs.Common.{rules}
 use Rattle.byte_slots.proofs.Sizes.{fitting_says}
 use Rattle.byte_map_union.proofs.Needing.{need_start, need_more}
 use Rattle.byte_map_union.proofs.table_needs.Goals as goal

@@ -1,4 +1,5 @@
 -- `byte_set::insert` meets its contract: the first free slot takes a key that is not there, its bytes the offset `used`.
+use Rattle.std.proofs.Common.{Ok, rules, ap, ◌∙◌}
 use Rattle.model.specs.Calls.{stored_by}
 use Rattle.answers.specs.Numbers.{joined_numbers}
 use Rattle.answers.specs.Said.{joined_said}
@@ -8,15 +9,15 @@ use Rattle.byte_set.proofs.Laws.{insert_fresh}
 use Rattle.byte_set.proofs.insert.Goals as goal
 
 pub fill-requires : goal.fill-requires
-fill-requires c = plan_fillable _ _ c.plan_insert-plan.ensures c.in-Free.is
+fill-requires c = plan_fillable _ _ c.plan_insert.ensures (c.in_ok-plan.was ∙ ap Ok c.in-Free.is)
 
 pub returns-in-Hit : goal.returns-in-Hit
 unfolding joined_numbers joined_said stored_by
-returns-in-Hit c = set_insert_says _ _ c.plan_insert-plan.ensures c.in-Hit.is
+returns-in-Hit c = set_insert_says _ _ c.plan_insert.ensures (c.in_ok-plan.was ∙ ap Ok c.in-Hit.is)
 
 pub returns-in-Free : goal.returns-in-Free
-returns-in-Free c = insert_fresh _ _ c.plan_insert-plan.ensures c.in-Free.is c.fill.ensures
+returns-in-Free c = insert_fresh _ _ c.plan_insert.ensures (c.in_ok-plan.was ∙ ap Ok c.in-Free.is) c.fill.ensures
 
-pub returns-in-Refused : goal.returns-in-Refused
+pub returns-in_err-plan : goal.returns-in_err-plan
 unfolding joined_numbers joined_said stored_by
-returns-in-Refused c = set_insert_says _ _ c.plan_insert-plan.ensures c.in-Refused.is
+returns-in_err-plan c = let z = set_insert_says _ _ c.plan_insert.ensures c.in_err-plan.was in search rules

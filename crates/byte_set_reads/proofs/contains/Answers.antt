@@ -1,4 +1,5 @@
 -- `byte_set_reads::contains` meets its contract: what the probing found.
+use Rattle.std.proofs.Common.{rules, ◌∙◌, ap, Ok}
 use Rattle.answers.specs.Numbers.{contained_numbers}
 use Rattle.answers.specs.Said.{contained_said}
 use Rattle.byte_slots.proofs.Calls.{contains_says}
@@ -6,16 +7,8 @@ use Rattle.byte_set_reads.proofs.contains.Goals as goal
 
 pub returns-in-Hit : goal.returns-in-Hit
 unfolding contained_numbers contained_said
-returns-in-Hit c = contains_says _ _ c.probe-seen.ensures c.in-Hit.is
+returns-in-Hit c = contains_says _ _ c.probe.ensures (c.in_ok-examined.was ∙ ap Ok c.in-Hit.is)
 
-pub returns-in-Free : goal.returns-in-Free
+pub returns-in_err-examined : goal.returns-in_err-examined
 unfolding contained_numbers contained_said
-returns-in-Free c = contains_says _ _ c.probe-seen.ensures c.in-Free.is
-
-pub returns-in-Full : goal.returns-in-Full
-unfolding contained_numbers contained_said
-returns-in-Full c = contains_says _ _ c.probe-seen.ensures c.in-Full.is
-
-pub returns-in-Refused : goal.returns-in-Refused
-unfolding contained_numbers contained_said
-returns-in-Refused c = contains_says _ _ c.probe-seen.ensures c.in-Refused.is
+returns-in_err-examined c = let z = contains_says _ _ c.probe.ensures c.in_err-examined.was in search rules

@@ -1,13 +1,11 @@
 -- `byte_set_reads::is_empty` meets its contract: as the length, told as whether it is 0.
+use Rattle.std.proofs.Common.{rules}
 use Rattle.byte_slots.specs.Kinds.{sets}
-use Rattle.kinds.proofs.Counts.{empty_none, empty_some, empty_not}
+use Rattle.kinds.proofs.Counts.{empty_told, empty_not}
 use Rattle.byte_set_reads.proofs.is_empty.Goals as goal
 
-pub returns-then-n-eq0 : goal.returns-then-n-eq0
-returns-then-n-eq0 c = empty_none sets _ c.len-count.ensures c.in-Count.is c.if-n-eq0.true
+pub returns : goal.returns
+returns c = empty_told sets _ c.len.ensures c.in_ok-len.was
 
-pub returns-else-n-eq0 : goal.returns-else-n-eq0
-returns-else-n-eq0 c = empty_some sets _ c.len-count.ensures c.in-Count.is c.if-n-eq0.false
-
-pub returns-in-Refused : goal.returns-in-Refused
-returns-in-Refused c = empty_not sets _ c.len-count.ensures c.in-Refused.is
+pub returns-in_err-len : goal.returns-in_err-len
+returns-in_err-len c = let z = empty_not sets _ c.len.ensures c.in_err-len.was in search rules

@@ -1,5 +1,5 @@
 -- `byte_slots::eight_at` meets its contract: four bytes and the next four.
-use native.Mathlib.Omega.{arith}
+use Rattle.std.proofs.Common.{arith}
 use Rattle.byte_slots.proofs.Eights.{joined}
 use Rattle.byte_slots.proofs.eight_at.Goals as goal
 

@@ -1,5 +1,5 @@
 -- `byte_slots::four_at` meets its contract: two bytes and the next two.
-use native.Mathlib.Omega.{arith}
+use Rattle.std.proofs.Common.{arith}
 use Rattle.byte_slots.proofs.Eights.{joined}
 use Rattle.byte_slots.proofs.four_at.Goals as goal
 

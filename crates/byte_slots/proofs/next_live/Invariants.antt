@@ -1,6 +1,5 @@
 -- `byte_slots::next_live` meets its contract. The loop's invariant: the rest of the stretch gives the whole answer. The measure is what is left of it.
-use Prim.Native.Nat.{◌-◌}
-use lib.ListN.{length}
+use Rattle.std.proofs.Common.{◌-◌, length}
 use Rattle.kinds.proofs.Scanning.{Ahead}
 use Rattle.byte_slots.specs.Memory.{spans_of}
 use Rattle.byte_slots.specs.Marks.{mark_of}

@@ -1,5 +1,5 @@
 -- `byte_slots::same_bytes` meets its contract. The loop's invariant: of one length, and equal so far. The measure is what is left of the length.
-use native.Mathlib.Omega.{arith}
+use Rattle.std.proofs.Common.{arith}
 use Rattle.byte_slots.proofs.Equal.{alike_eight, alike_other, unlike}
 use Rattle.byte_slots.proofs.same_bytes.Goals as goal
 

@@ -1,6 +1,5 @@
 -- `byte_slots::same_bytes` meets its contract. The loop's invariant: of one length, and equal so far. The measure is what is left of the length.
-use Prim.Native.Nat.{◌-◌}
-use lib.ListN.{length}
+use Rattle.std.proofs.Common.{◌-◌, length}
 use Rattle.byte_slots.proofs.Equal.{Alike}
 use Rattle.byte_slots.proofs.same_bytes.Given as goal
 

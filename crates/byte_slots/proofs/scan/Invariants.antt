@@ -1,6 +1,5 @@
 -- `byte_slots::scan` meets its contract. The loop's invariant: no damage so far, and so many live. The measure is what is left of the length.
-use Prim.Native.Nat.{◌-◌}
-use lib.ListN.{length}
+use Rattle.std.proofs.Common.{◌-◌, length}
 use Rattle.kinds.proofs.Scanning.{Scanning}
 use Rattle.byte_slots.specs.Memory.{spans_of}
 use Rattle.byte_slots.specs.Marks.{mark_of}

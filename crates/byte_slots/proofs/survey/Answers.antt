@@ -1,27 +1,29 @@
 -- `byte_slots::survey` meets its contract. The loop's invariant: no mark above 2 so far, the sum and the largest end. The measure is what is left of the length.
-use mathlib.Core.Path.{refl, ◌∙◌}
+use Rattle.std.proofs.Common.{Ok, rules, refl, ◌∙◌, ap}
 use Rattle.byte_slots.proofs.Surveys.{survey_start, survey_bad, survey_live, survey_pass, survey_over, survey_beyond, survey_end}
+use Rattle.byte_slots.proofs.Marks.{not_live}
 use Rattle.byte_slots.proofs.survey.Goals as goal
-use Rattle.byte_slots.proofs.survey.Goals.{then-state-eq1, else-state-eq1+else-state-gt2}
+use Rattle.byte_slots.proofs.survey.Goals.{in-Live, in-Never, then-arena-used-via-then-arena-used, then-arena-used-via-else-arena-used+then-used-top}
 
 pub loop-i-init : goal.loop-i-init
 loop-i-init c = survey_start _ c.requires
 
-pub returns-then-state-gt2 : goal.returns-then-state-gt2
-returns-then-state-gt2 c = survey_bad c.loop-i.invariant c.loop-i-test.true refl c.if-state-gt2.true c.if-state-eq1.false
+pub returns-in_err-try_from : goal.returns-in_err-try_from
+returns-in_err-try_from c = let z = survey_bad c.loop-i.invariant c.loop-i-test.true refl c.try_from.ensures c.in_err-try_from.was in search rules
 
 pub loop-i-preserved : goal.loop-i-preserved
 loop-i-preserved c =
-    elim c.if-state-eq1.branch [
-      | then-state-eq1 w ↦ survey_live c.loop-i.invariant c.loop-i-test.true refl w.if-state-eq1.true w.len_at-len.ensures refl w.used-is (w.top-is ∙ w.higher_end-top.ensures)
-      | else-state-eq1+else-state-gt2 w ↦ survey_pass c.loop-i.invariant c.loop-i-test.true refl w.if-state-gt2.false w.if-state-eq1.false w.used-is w.top-is
+    elim c.match-branch-2.branch [
+      | in-Live w ↦ survey_live c.loop-i.invariant c.loop-i-test.true refl c.try_from.ensures (c.in_ok-try_from.was ∙ ap Ok w.in-Live.is) w.len_at-len.ensures refl w.used-is (w.top-is ∙ w.higher_end-top.ensures)
+      | in-Never w ↦ survey_pass c.loop-i.invariant c.loop-i-test.true refl c.try_from.ensures c.in_ok-try_from.was (not_live w.in-Never.is) w.used-is w.top-is
     ]
 
 pub returns-then-arena-used : goal.returns-then-arena-used
-returns-then-arena-used c = survey_over c.loop-i.invariant c.loop-i-test.false c.if-arena-used.true
-
-pub returns-then-used-top : goal.returns-then-used-top
-returns-then-used-top c = survey_beyond c.loop-i.invariant c.loop-i-test.false c.if-arena-used.false c.if-used-top.true
+returns-then-arena-used c =
+    elim c.then-arena-used.branch [
+      | then-arena-used-via-then-arena-used w ↦ survey_over c.loop-i.invariant c.loop-i-test.false w.if-arena-used.true
+      | then-arena-used-via-else-arena-used+then-used-top w ↦ survey_beyond c.loop-i.invariant c.loop-i-test.false w.if-arena-used.false w.if-used-top.true
+    ]
 
 pub returns : goal.returns
 returns c = survey_end c.loop-i.invariant c.loop-i-test.false c.if-arena-used.false c.if-used-top.false

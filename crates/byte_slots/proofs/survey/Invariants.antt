@@ -1,6 +1,5 @@
 -- `byte_slots::survey` meets its contract. The loop's invariant: no mark above 2 so far, the sum and the largest end. The measure is what is left of the length.
-use Prim.Native.Nat.{◌-◌}
-use lib.ListN.{length}
+use Rattle.std.proofs.Common.{◌-◌, length}
 use Rattle.byte_slots.specs.Memory.{spans_of}
 use Rattle.byte_slots.proofs.Surveys.{Surveying}
 use Rattle.byte_slots.proofs.survey.Given as goal

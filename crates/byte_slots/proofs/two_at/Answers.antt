@@ -1,6 +1,5 @@
 -- `byte_slots::two_at` meets its contract: each byte is one of the two, and the number has both.
-use Prim.Native.Nat.{◌+◌}
-use native.Mathlib.Omega.{arith}
+use Rattle.std.proofs.Common.{◌+◌, arith}
 use Rattle.byte_slots.proofs.Eights.{joined_two}
 use Rattle.byte_slots.proofs.two_at.Goals as goal
 

@@ -1,6 +1,5 @@
 -- `byte_slots::walk_path` meets its contract. The loop's invariant: the rest of the trail gives the path's answer. The measure is how many slots are left.
-use Prim.Native.Nat.{◌-◌}
-use lib.ListN.{length}
+use Rattle.std.proofs.Common.{◌-◌, length}
 use Rattle.kinds.proofs.Trail.{OnTrail}
 use Rattle.byte_slots.specs.Keys.{byte_keys}
 use Rattle.byte_slots.specs.Memory.{spans_of, key_at}

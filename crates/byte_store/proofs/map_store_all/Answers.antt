@@ -1,9 +1,7 @@
--- `byte_store::map_store_all` meets its contract. The loop's invariant: the pairs of the slots passed are in, and there is room for the others. The measure is how many slots are left.
+-- `byte_store::map_store_all` meets its contract. The loop's invariant: the pairs of the slots passed are in, and there is room for the others.
 use Rattle.byte_store.proofs.Turns.{slot_aligned, turn_start, turn_slot, turn_more, words_more}
 use Rattle.kinds.specs.Columns.{values}
-use mathlib.Core.Path.{refl}
-use native.Mathlib.Omega.{arith}
-use borrow.Author.Rules.{rules}
+use Rattle.std.proofs.Common.{refl, arith, rules}
 use Rattle.byte_store.proofs.map_store_all.Goals as goal
 
 pub loop-i-init : goal.loop-i-init

@@ -1,7 +1,7 @@
--- `byte_store::store_all` meets its contract. The loop's invariant: the keys of the slots passed are in, and there is room for the others. The measure is how many slots are left.
+-- `byte_store::store_all` meets its contract. The loop's invariant: the keys of the slots passed are in, and there is room for the others.
 use Rattle.byte_store.proofs.Turns.{slot_aligned, turn_start, turn_slot, turn_more}
 use Rattle.kinds.specs.Columns.{nothing}
-use borrow.Author.Rules.{rules}
+use Rattle.std.proofs.Common.{rules}
 use Rattle.byte_store.proofs.store_all.Goals as goal
 
 pub loop-i-init : goal.loop-i-init

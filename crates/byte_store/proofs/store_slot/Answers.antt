@@ -1,18 +1,23 @@
 -- `byte_store::store_slot` meets its contract: a live slot's key goes in by the rule, another stores nothing.
-use Rattle.byte_slots.proofs.Marks.{span_within}
-use Rattle.byte_store.proofs.Turns.{live_storable, slot_live, slot_idle}
+use Rattle.std.proofs.Common.{Ok, ap, refl, ◌∙◌, arith}
 use Rattle.kinds.specs.Columns.{nothing}
-use native.Mathlib.Omega.{arith}
+use Rattle.kinds.specs.declared.Mark.TheVariants.{Live}
+use Rattle.byte_slots.proofs.Marks.{span_within, not_live}
+use Rattle.byte_store.proofs.Marks.{mark_live, read_apart}
+use Rattle.byte_store.proofs.Turns.{live_storable, slot_live, slot_idle}
 use Rattle.byte_store.proofs.store_slot.Goals as goal
 
+pub returns-in_default : goal.returns-in_default
+returns-in_default c = (slot_idle nothing _ _ _ c.mark_at.ensures (c.in_default.not-Ok Live), c.requires.0.used)
+
 pub key_at-key-requires : goal.key_at-key-requires
-key_at-key-requires c = (omega (arith, c.requires.1.slot, c.requires.1.lengths), span_within _ _ c.mark_at.ensures c.if-mark_at-eq1.true)
+key_at-key-requires c = (omega (arith, c.requires.1.slot, c.requires.1.lengths), span_within _ _ refl (mark_live _ _ c.mark_at.ensures (c.in-Ok.is ∙ ap Ok c.in-Live.is)))
 
-pub store-placed-requires : goal.store-placed-requires
-store-placed-requires c = live_storable _ _ c.mark_at.ensures c.if-mark_at-eq1.true c.key_at-key.ensures c.requires.0
+pub store-requires : goal.store-requires
+store-requires c = live_storable _ _ c.mark_at.ensures (c.in-Ok.is ∙ ap Ok c.in-Live.is) c.key_at-key.ensures c.requires.0
 
-pub returns-then-mark_at-eq1 : goal.returns-then-mark_at-eq1
-returns-then-mark_at-eq1 c = (slot_live nothing _ _ _ c.mark_at.ensures c.if-mark_at-eq1.true c.key_at-key.ensures.0 c.store-placed.ensures.0, c.store-placed.ensures.2)
+pub returns-in-Live : goal.returns-in-Live
+returns-in-Live c = (slot_live nothing _ _ _ c.mark_at.ensures (c.in-Ok.is ∙ ap Ok c.in-Live.is) c.key_at-key.ensures.0 c.store.ensures.0, c.store.ensures.2)
 
-pub returns : goal.returns
-returns c = (slot_idle nothing _ _ _ c.mark_at.ensures c.if-mark_at-eq1.false, c.requires.0.used)
+pub returns-in-Never : goal.returns-in-Never
+returns-in-Never c = (slot_idle nothing _ _ _ c.mark_at.ensures (read_apart c.in-Ok.is (not_live c.in-Never.is)), c.requires.0.used)

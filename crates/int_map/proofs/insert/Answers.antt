@@ -1,51 +1,39 @@
 -- `int_map::insert` meets its contract: the value changes in the key's slot, or the first free slot takes the key.
-use native.Mathlib.Omega.{arith}
-use Rattle.model.specs.Calls.{stored_by}
-use Rattle.answers.specs.Numbers.{inserted_numbers}
-use Rattle.answers.specs.Said.{inserted_said}
+use Rattle.std.specs.Prelude.{Ok}
+use Rattle.std.proofs.Common.{arith, ◌∙◌, ap}
 use Rattle.int_slots.proofs.Seeking.{hit_inside, free_inside}
-use Rattle.int_slots.proofs.Calls.{insert_says}
+use Rattle.int_slots.proofs.Calls.{insert_hit, insert_free}
 use Rattle.int_map.proofs.insert.Goals as goal
 
 pub offset_bounds-values-slot : goal.offset_bounds-values-slot
-offset_bounds-values-slot c = omega (arith, hit_inside _ _ c.map_probe-seen.ensures c.in-Hit.is)
+offset_bounds-values-slot c = omega (arith, hit_inside _ _ c.map_probe.ensures (c.in_ok-slot.was ∙ ap Ok c.in-Hit.is))
 
 pub bounds-values-slot : goal.bounds-values-slot
-bounds-values-slot c = (hit_inside _ _ c.map_probe-seen.ensures c.in-Hit.is).2
+bounds-values-slot c = (hit_inside _ _ c.map_probe.ensures (c.in_ok-slot.was ∙ ap Ok c.in-Hit.is)).2
 
 pub offset_bounds-values-slot-in-Hit : goal.offset_bounds-values-slot-in-Hit
-offset_bounds-values-slot-in-Hit c = omega (arith, hit_inside _ _ c.map_probe-seen.ensures c.in-Hit.is)
+offset_bounds-values-slot-in-Hit c = omega (arith, hit_inside _ _ c.map_probe.ensures (c.in_ok-slot.was ∙ ap Ok c.in-Hit.is))
 
 pub bounds-values-slot-in-Hit : goal.bounds-values-slot-in-Hit
-bounds-values-slot-in-Hit c = (hit_inside _ _ c.map_probe-seen.ensures c.in-Hit.is).2
+bounds-values-slot-in-Hit c = (hit_inside _ _ c.map_probe.ensures (c.in_ok-slot.was ∙ ap Ok c.in-Hit.is)).2
 
 pub bounds-marks-slot : goal.bounds-marks-slot
-bounds-marks-slot c = (free_inside _ _ c.map_probe-seen.ensures c.in-Free.is).0
+bounds-marks-slot c = (free_inside _ _ c.map_probe.ensures (c.in_ok-slot.was ∙ ap Ok c.in-Free.is)).0
 
 pub offset_bounds-keys-slot : goal.offset_bounds-keys-slot
-offset_bounds-keys-slot c = omega (arith, free_inside _ _ c.map_probe-seen.ensures c.in-Free.is)
+offset_bounds-keys-slot c = omega (arith, free_inside _ _ c.map_probe.ensures (c.in_ok-slot.was ∙ ap Ok c.in-Free.is))
 
 pub bounds-keys-slot : goal.bounds-keys-slot
-bounds-keys-slot c = (free_inside _ _ c.map_probe-seen.ensures c.in-Free.is).1
+bounds-keys-slot c = (free_inside _ _ c.map_probe.ensures (c.in_ok-slot.was ∙ ap Ok c.in-Free.is)).1
 
 pub offset_bounds-values-slot-in-Free : goal.offset_bounds-values-slot-in-Free
-offset_bounds-values-slot-in-Free c = omega (arith, free_inside _ _ c.map_probe-seen.ensures c.in-Free.is)
+offset_bounds-values-slot-in-Free c = omega (arith, free_inside _ _ c.map_probe.ensures (c.in_ok-slot.was ∙ ap Ok c.in-Free.is))
 
 pub bounds-values-slot-in-Free : goal.bounds-values-slot-in-Free
-bounds-values-slot-in-Free c = (free_inside _ _ c.map_probe-seen.ensures c.in-Free.is).2
+bounds-values-slot-in-Free c = (free_inside _ _ c.map_probe.ensures (c.in_ok-slot.was ∙ ap Ok c.in-Free.is)).2
 
 pub returns-in-Hit : goal.returns-in-Hit
-unfolding inserted_numbers inserted_said stored_by
-returns-in-Hit c = insert_says _ _ c.map_probe-seen.ensures c.in-Hit.is _
+returns-in-Hit c = insert_hit _ _ c.map_probe.ensures _ c.in_ok-slot.was c.in-Hit.is
 
 pub returns-in-Free : goal.returns-in-Free
-unfolding inserted_numbers inserted_said stored_by
-returns-in-Free c = insert_says _ _ c.map_probe-seen.ensures c.in-Free.is _
-
-pub returns-in-Full : goal.returns-in-Full
-unfolding inserted_numbers inserted_said stored_by
-returns-in-Full c = insert_says _ _ c.map_probe-seen.ensures c.in-Full.is _
-
-pub returns-in-Refused : goal.returns-in-Refused
-unfolding inserted_numbers inserted_said stored_by
-returns-in-Refused c = insert_says _ _ c.map_probe-seen.ensures c.in-Refused.is _
+returns-in-Free c = insert_free _ _ c.map_probe.ensures _ c.in_ok-slot.was c.in-Free.is

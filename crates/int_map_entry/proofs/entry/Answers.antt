@@ -1,30 +1,30 @@
 -- `int_map_entry::entry` meets its contract: each way in which the probing ends is an answer.
-use native.Mathlib.Omega.{arith}
+use Rattle.std.specs.Prelude.{Ok}
+use Rattle.std.proofs.Common.{rules, arith, ◌∙◌, ap}
 use Rattle.answers.specs.Said.{entered_said}
 use Rattle.int_map_entry.specs.Numbers.{entered_numbers}
 use Rattle.int_slots.proofs.Seeking.{hit_inside}
 use Rattle.int_slots.proofs.Calls.{entry_says}
-use borrow.Author.Rules.{rules}
 use Rattle.int_map_entry.proofs.entry.Goals as goal
 
 pub offset_bounds-values-slot : goal.offset_bounds-values-slot
-offset_bounds-values-slot c = let (a, b, d) = hit_inside _ _ c.map_probe-seen.ensures c.in-Hit.is in search rules
+offset_bounds-values-slot c = let (a, b, d) = hit_inside _ _ c.map_probe.ensures (c.in-Ok-Hit.is ∙ ap Ok c.in-Ok-Hit.field-0-is) in search rules
 
 pub bounds-values-slot : goal.bounds-values-slot
-bounds-values-slot c = let (a, b, d) = hit_inside _ _ c.map_probe-seen.ensures c.in-Hit.is in omega arith
+bounds-values-slot c = let (a, b, d) = hit_inside _ _ c.map_probe.ensures (c.in-Ok-Hit.is ∙ ap Ok c.in-Ok-Hit.field-0-is) in omega arith
 
-pub returns-in-Hit : goal.returns-in-Hit
+pub returns-in-Ok-Hit : goal.returns-in-Ok-Hit
 unfolding entered_numbers entered_said
-returns-in-Hit c = entry_says _ _ c.map_probe-seen.ensures c.in-Hit.is
+returns-in-Ok-Hit c = entry_says _ _ c.map_probe.ensures (c.in-Ok-Hit.is ∙ ap Ok c.in-Ok-Hit.field-0-is)
 
-pub returns-in-Free : goal.returns-in-Free
+pub returns-in-Ok-Free : goal.returns-in-Ok-Free
 unfolding entered_numbers entered_said
-returns-in-Free c = entry_says _ _ c.map_probe-seen.ensures c.in-Free.is
+returns-in-Ok-Free c = entry_says _ _ c.map_probe.ensures (c.in-Ok-Free.is ∙ ap Ok c.in-Ok-Free.field-0-is)
 
-pub returns-in-Full : goal.returns-in-Full
+pub returns-in-Ok-Full : goal.returns-in-Ok-Full
 unfolding entered_numbers entered_said
-returns-in-Full c = entry_says _ _ c.map_probe-seen.ensures c.in-Full.is
+returns-in-Ok-Full c = entry_says _ _ c.map_probe.ensures (c.in-Ok-Full.is ∙ ap Ok c.in-Ok-Full.field-0-is)
 
-pub returns-in-Refused : goal.returns-in-Refused
+pub returns-in-Err : goal.returns-in-Err
 unfolding entered_numbers entered_said
-returns-in-Refused c = entry_says _ _ c.map_probe-seen.ensures c.in-Refused.is
+returns-in-Err c = entry_says _ _ c.map_probe.ensures c.in-Err.is

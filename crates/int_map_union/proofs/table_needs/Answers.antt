@@ -1,5 +1,5 @@
--- `int_map_union::table_needs` meets its contract. The loop's invariant: the needs of the slots passed. The measure is how many are left.
-use borrow.Author.Rules.{rules}
+-- `int_map_union::table_needs` meets its contract. The loop's invariant: the needs of the slots passed.
+use Rattle.std.proofs.Common.{rules}
 use Rattle.int_map_union.proofs.Needing.{slot_needs_low, need_start, need_more}
 use Rattle.int_map_union.proofs.table_needs.Goals as goal
 

@@ -1,22 +1,23 @@
 -- `int_slots::scan` meets its contract. The loop's invariant: no damage so far, and so many live. The measure is what is left of the length.
-use mathlib.Core.Path.{refl}
-use borrow.Author.Rules.{rules}
-use Rattle.kinds.proofs.Scanning.{counted_low, scan_start, scan_bad, scan_on, scan_end}
+use Rattle.std.specs.Prelude.{Ok}
+use Rattle.std.proofs.Common.{rules, refl, ◌∙◌, ap}
+use Rattle.kinds.proofs.Scanning.{scan_start, scan_bad, scan_live, scan_other, scan_end}
 use Rattle.int_slots.specs.Scanning.{scanning}
 use Rattle.int_slots.proofs.scan.Goals as goal
+use Rattle.int_slots.proofs.scan.Goals.{in-Live, in_default}
 
 pub loop-i-init : goal.loop-i-init
 loop-i-init c = scan_start _ _
 
-pub returns-then-mark-gt2 : goal.returns-then-mark-gt2
+pub returns-in_err-mark : goal.returns-in_err-mark
 unfolding scanning
-returns-then-mark-gt2 c = scan_bad c.loop-i.invariant c.loop-i-test.true refl c.if-mark-gt2.true
-
-pub overflow_add-live : goal.overflow_add-live
-overflow_add-live c = let one = counted_low _ c.count_mark-live.ensures in search rules
+returns-in_err-mark c = let z = scan_bad c.loop-i.invariant c.loop-i-test.true refl c.try_from.ensures c.in_err-mark.was in search rules
 
 pub loop-i-preserved : goal.loop-i-preserved
-loop-i-preserved c = scan_on c.loop-i.invariant c.loop-i-test.true refl c.if-mark-gt2.false c.count_mark-live.ensures
+loop-i-preserved c = elim c.match-mark.branch [
+  | in-Live w ↦ rw w.live-is (scan_live c.loop-i.invariant c.loop-i-test.true refl c.try_from.ensures (c.in_ok-mark.was ∙ ap Ok w.in-Live.is))
+  | in_default w ↦ rw w.live-is (scan_other c.loop-i.invariant c.loop-i-test.true refl c.try_from.ensures c.in_ok-mark.was w.in_default.not-Live)
+]
 
 pub returns : goal.returns
 unfolding scanning

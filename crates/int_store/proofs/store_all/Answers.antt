@@ -1,8 +1,8 @@
--- `int_store::store_all` meets its contract. The loop's invariant: the keys of the slots passed are in. The measure is how many slots are left.
+-- `int_store::store_all` meets its contract. The loop's invariant: the keys of the slots passed are in.
 use Rattle.int_store.proofs.Storing.{store_start, store_more}
 use Rattle.kinds.proofs.Columns.{nothing_lawful}
 use Rattle.kinds.specs.Columns.{nothing}
-use borrow.Author.Rules.{rules}
+use Rattle.std.proofs.Common.{rules}
 use Rattle.int_store.proofs.store_all.Goals as goal
 
 pub loop-i-init : goal.loop-i-init

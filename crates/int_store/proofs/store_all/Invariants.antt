@@ -1,13 +1,8 @@
--- `int_store::store_all` meets its contract. The loop's invariant: the keys of the slots passed are in. The measure is how many slots are left.
-use Prim.Native.Nat.{◌-◌}
+-- `int_store::store_all` meets its contract. The loop's invariant: the keys of the slots passed are in.
 use Rattle.int_slots.specs.Sets.{memory}
 use Rattle.int_store.proofs.Storing.{Storing}
 use Rattle.kinds.specs.Columns.{nothing}
-use lib.ListN.{length}
 use Rattle.int_store.proofs.store_all.Given as goal
 
 abbrev pub invariant-loop-i : goal.invariant-loop-i
 invariant-loop-i l = Storing nothing (memory l.initial.marks l.initial.keys) (memory l.right_marks l.right_keys) (memory l.marks l.keys) l.i
-
-abbrev pub decreases-loop-i : goal.decreases-loop-i
-decreases-loop-i l = length l.right_marks - l.i

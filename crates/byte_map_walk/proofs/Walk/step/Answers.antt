@@ -1,5 +1,5 @@
 -- `byte_map_walk::Walk::step` meets its contract: the pair of the live slot that it comes upon, nothing, done, or the refusal.
-use native.Mathlib.Omega.{arith}
+use Rattle.std.proofs.Common.{arith, ◌∙◌, ap, Ok}
 use Rattle.kinds.specs.Columns.{values}
 use Rattle.byte_slots.specs.Kinds.{step_of}
 use Rattle.byte_slots.proofs.Steps.{live_pair, nothing_slot, said_span_law, said_nothing, said_done, said_refused}
@@ -7,38 +7,38 @@ use Rattle.byte_map_walk.specs.Numbers.{step_numbers, yielded_numbers}
 use Rattle.byte_map_walk.proofs.Walk.step.Goals as goal
 
 pub len_at-length-requires : goal.len_at-length-requires
-len_at-length-requires c = omega (arith, live_pair _ _ _ c.map_ahead-ahead.ensures c.in-Live.is)
+len_at-length-requires c = omega (arith, live_pair _ _ _ c.map_ahead.ensures (c.in-Ok-Live.is ∙ ap Ok c.in-Ok-Live.field-0-is))
 
 pub overflow_add-result : goal.overflow_add-result
-overflow_add-result c = omega (arith, live_pair _ _ _ c.map_ahead-ahead.ensures c.in-Live.is)
+overflow_add-result c = omega (arith, live_pair _ _ _ c.map_ahead.ensures (c.in-Ok-Live.is ∙ ap Ok c.in-Ok-Live.field-0-is))
 
 pub offset_bounds-values-slot : goal.offset_bounds-values-slot
-offset_bounds-values-slot c = omega (arith, live_pair _ _ _ c.map_ahead-ahead.ensures c.in-Live.is)
+offset_bounds-values-slot c = omega (arith, live_pair _ _ _ c.map_ahead.ensures (c.in-Ok-Live.is ∙ ap Ok c.in-Ok-Live.field-0-is))
 
 pub bounds-values-slot : goal.bounds-values-slot
-bounds-values-slot c = omega (arith, live_pair _ _ _ c.map_ahead-ahead.ensures c.in-Live.is)
+bounds-values-slot c = omega (arith, live_pair _ _ _ c.map_ahead.ensures (c.in-Ok-Live.is ∙ ap Ok c.in-Ok-Live.field-0-is))
 
-pub overflow_add-result-in-Live : goal.overflow_add-result-in-Live
-overflow_add-result-in-Live c = omega (arith, live_pair _ _ _ c.map_ahead-ahead.ensures c.in-Live.is)
+pub overflow_add-result-in-Ok-Live : goal.overflow_add-result-in-Ok-Live
+overflow_add-result-in-Ok-Live c = omega (arith, live_pair _ _ _ c.map_ahead.ensures (c.in-Ok-Live.is ∙ ap Ok c.in-Ok-Live.field-0-is))
 
 pub overflow_sub-result : goal.overflow_sub-result
-overflow_sub-result c = omega (arith, live_pair _ _ _ c.map_ahead-ahead.ensures c.in-Live.is)
+overflow_sub-result c = omega (arith, live_pair _ _ _ c.map_ahead.ensures (c.in-Ok-Live.is ∙ ap Ok c.in-Ok-Live.field-0-is))
 
-pub overflow_sub-result-in-Nothing : goal.overflow_sub-result-in-Nothing
-overflow_sub-result-in-Nothing c = omega (arith, nothing_slot values _ _ _ c.map_ahead-ahead.ensures c.in-Nothing.is)
+pub overflow_sub-result-in-Ok-Nothing : goal.overflow_sub-result-in-Ok-Nothing
+overflow_sub-result-in-Ok-Nothing c = omega (arith, nothing_slot values _ _ _ c.map_ahead.ensures (c.in-Ok-Nothing.is ∙ ap Ok c.in-Ok-Nothing.field-0-is))
 
-pub returns-in-Live : goal.returns-in-Live
+pub returns-in-Ok-Live : goal.returns-in-Ok-Live
 unfolding step_numbers yielded_numbers step_of
-returns-in-Live c = said_span_law values _ _ _ c.map_ahead-ahead.ensures (λ v. v) c.in-Live.is c.offset_at-offset.ensures c.len_at-length.ensures.0
+returns-in-Ok-Live c = said_span_law values _ _ _ c.map_ahead.ensures (λ v. v) (c.in-Ok-Live.is ∙ ap Ok c.in-Ok-Live.field-0-is) c.offset_at-offset.ensures c.len_at-length.ensures.0
 
-pub returns-in-Nothing : goal.returns-in-Nothing
+pub returns-in-Ok-Nothing : goal.returns-in-Ok-Nothing
 unfolding step_numbers yielded_numbers step_of
-returns-in-Nothing c = said_nothing values _ _ _ c.map_ahead-ahead.ensures _ c.in-Nothing.is
+returns-in-Ok-Nothing c = said_nothing values _ _ _ c.map_ahead.ensures _ (c.in-Ok-Nothing.is ∙ ap Ok c.in-Ok-Nothing.field-0-is)
 
-pub returns-in-Done : goal.returns-in-Done
+pub returns-in-Ok-Done : goal.returns-in-Ok-Done
 unfolding step_numbers yielded_numbers step_of
-returns-in-Done c = said_done values _ _ _ c.map_ahead-ahead.ensures _ c.in-Done.is
+returns-in-Ok-Done c = said_done values _ _ _ c.map_ahead.ensures _ (c.in-Ok-Done.is ∙ ap Ok c.in-Ok-Done.field-0-is)
 
-pub returns-in-Refused : goal.returns-in-Refused
+pub returns-in-Err : goal.returns-in-Err
 unfolding step_numbers yielded_numbers step_of
-returns-in-Refused c = said_refused values _ _ _ c.map_ahead-ahead.ensures _ c.in-Refused.is
+returns-in-Err c = said_refused values _ _ _ c.map_ahead.ensures _ c.in-Err.is

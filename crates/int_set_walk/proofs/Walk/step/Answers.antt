@@ -1,5 +1,6 @@
 -- `int_set_walk::Walk::step` meets its contract: the key of the live slot that it comes upon, nothing, done, or the refusal.
-use native.Mathlib.Omega.{arith}
+use Rattle.std.specs.Prelude.{Ok}
+use Rattle.std.proofs.Common.{arith, ◌∙◌, ap}
 use Rattle.kinds.specs.Columns.{nothing}
 use Rattle.int_slots.specs.Steps.{set_step_of}
 use Rattle.int_slots.proofs.Steps.{live_slot, nothing_slot, said_live, said_nothing, said_done, said_refused}
@@ -7,35 +8,35 @@ use Rattle.int_set_walk.specs.Numbers.{step_numbers, yielded_numbers}
 use Rattle.int_set_walk.proofs.Walk.step.Goals as goal
 
 pub overflow_add-result : goal.overflow_add-result
-overflow_add-result c = omega (arith, live_slot nothing _ _ _ c.ahead-ahead.ensures c.in-Live.is)
+overflow_add-result c = omega (arith, live_slot nothing _ _ _ c.ahead.ensures (c.in-Ok-Live.is ∙ ap Ok c.in-Ok-Live.field-0-is))
 
 pub offset_bounds-keys-slot : goal.offset_bounds-keys-slot
-offset_bounds-keys-slot c = omega (arith, live_slot nothing _ _ _ c.ahead-ahead.ensures c.in-Live.is)
+offset_bounds-keys-slot c = omega (arith, live_slot nothing _ _ _ c.ahead.ensures (c.in-Ok-Live.is ∙ ap Ok c.in-Ok-Live.field-0-is))
 
 pub bounds-keys-slot : goal.bounds-keys-slot
-bounds-keys-slot c = omega (arith, live_slot nothing _ _ _ c.ahead-ahead.ensures c.in-Live.is)
+bounds-keys-slot c = omega (arith, live_slot nothing _ _ _ c.ahead.ensures (c.in-Ok-Live.is ∙ ap Ok c.in-Ok-Live.field-0-is))
 
-pub overflow_add-result-in-Live : goal.overflow_add-result-in-Live
-overflow_add-result-in-Live c = omega (arith, live_slot nothing _ _ _ c.ahead-ahead.ensures c.in-Live.is)
+pub overflow_add-result-in-Ok-Live : goal.overflow_add-result-in-Ok-Live
+overflow_add-result-in-Ok-Live c = omega (arith, live_slot nothing _ _ _ c.ahead.ensures (c.in-Ok-Live.is ∙ ap Ok c.in-Ok-Live.field-0-is))
 
 pub overflow_sub-result : goal.overflow_sub-result
-overflow_sub-result c = omega (arith, live_slot nothing _ _ _ c.ahead-ahead.ensures c.in-Live.is)
+overflow_sub-result c = omega (arith, live_slot nothing _ _ _ c.ahead.ensures (c.in-Ok-Live.is ∙ ap Ok c.in-Ok-Live.field-0-is))
 
-pub overflow_sub-result-in-Nothing : goal.overflow_sub-result-in-Nothing
-overflow_sub-result-in-Nothing c = omega (arith, nothing_slot nothing _ _ _ c.ahead-ahead.ensures c.in-Nothing.is)
+pub overflow_sub-result-in-Ok-Nothing : goal.overflow_sub-result-in-Ok-Nothing
+overflow_sub-result-in-Ok-Nothing c = omega (arith, nothing_slot nothing _ _ _ c.ahead.ensures (c.in-Ok-Nothing.is ∙ ap Ok c.in-Ok-Nothing.field-0-is))
 
-pub returns-in-Live : goal.returns-in-Live
+pub returns-in-Ok-Live : goal.returns-in-Ok-Live
 unfolding step_numbers yielded_numbers set_step_of
-returns-in-Live c = said_live nothing _ _ _ c.ahead-ahead.ensures _ c.in-Live.is
+returns-in-Ok-Live c = said_live nothing _ _ _ c.ahead.ensures _ (c.in-Ok-Live.is ∙ ap Ok c.in-Ok-Live.field-0-is)
 
-pub returns-in-Nothing : goal.returns-in-Nothing
+pub returns-in-Ok-Nothing : goal.returns-in-Ok-Nothing
 unfolding step_numbers yielded_numbers set_step_of
-returns-in-Nothing c = said_nothing nothing _ _ _ c.ahead-ahead.ensures _ c.in-Nothing.is
+returns-in-Ok-Nothing c = said_nothing nothing _ _ _ c.ahead.ensures _ (c.in-Ok-Nothing.is ∙ ap Ok c.in-Ok-Nothing.field-0-is)
 
-pub returns-in-Done : goal.returns-in-Done
+pub returns-in-Ok-Done : goal.returns-in-Ok-Done
 unfolding step_numbers yielded_numbers set_step_of
-returns-in-Done c = said_done nothing _ _ _ c.ahead-ahead.ensures _ c.in-Done.is
+returns-in-Ok-Done c = said_done nothing _ _ _ c.ahead.ensures _ (c.in-Ok-Done.is ∙ ap Ok c.in-Ok-Done.field-0-is)
 
-pub returns-in-Refused : goal.returns-in-Refused
+pub returns-in-Err : goal.returns-in-Err
 unfolding step_numbers yielded_numbers set_step_of
-returns-in-Refused c = said_refused nothing _ _ _ c.ahead-ahead.ensures _ c.in-Refused.is
+returns-in-Err c = said_refused nothing _ _ _ c.ahead.ensures _ c.in-Err.is

@@ -1,9 +1,0 @@
--- `byte_slots::map_plan_remove` meets its contract: refusal 1 where the values do not fit, else the plan.
-use Rattle.byte_slots.proofs.Planning.{map_plan_remove_long, map_plan_remove_short}
-use Rattle.byte_slots.proofs.map_plan_remove.Goals as goal
-
-pub returns-then-marks-values : goal.returns-then-marks-values
-returns-then-marks-values c = map_plan_remove_long _ _ c.if-marks-values.true c.plan_remove.ensures
-
-pub returns : goal.returns
-returns c = map_plan_remove_short _ _ c.if-marks-values.false
