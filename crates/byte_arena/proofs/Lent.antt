@@ -22,10 +22,6 @@ pub record Moving (a : List ℕ) (to from count i : ℕ) (b : List ℕ) : Type 0
   pub moved : b ≡ paste a to (drop from a) i
 
 module _ (a : List ℕ) (to from count : ℕ) where
-  -- None moved, one more, and all.
-  pub moving_none : Moving a to from count 0 a
-  moving_none = record { within = omega arith; long = refl; moved = paste-zero a to (drop from a) }
-
   pub moving_more : (i : ℕ) (b : List ℕ) → to ≤ from → from + count ≤ length a → i < count → Moving a to from count i b → Moving a to from count (i + 1) (set b (to + i) (get_or b (from + i) 0))
   moving_more i b d l n m = record { within = omega arith; long = length-set b (to + i) (get_or b (from + i) 0) ∙ m.long; moved = next }
     where

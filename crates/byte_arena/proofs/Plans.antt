@@ -19,7 +19,7 @@ use Rattle.kinds.specs.Probing.{along}
 use Rattle.kinds.proofs.Bridge.{free_below}
 use Rattle.byte_slots.specs.Keys.{byte_keys}
 use Rattle.byte_slots.specs.Memory.{Spans, ByteMemory, byte_store, bare, used_of, full_damage, fitting, asked_of, keeping, live_at}
-use Rattle.byte_slots.specs.Planning.{insert_plan_by, room_for, planning_kept, planning_insert, planning_map_insert, remove_plan_by, planning_remove, planning_map_remove}
+use Rattle.byte_slots.specs.Planning.{insert_plan_by, room_for, planning_kept, inserting, planning_insert, planning_map_insert, remove_plan_by, removing, planning_remove, planning_map_remove}
 use Rattle.byte_slots.specs.Probing.{path_of}
 use Rattle.byte_slots.proofs.Sizes.{fitting_says}
 use Rattle.byte_slots.proofs.Bridge.{path_is}
@@ -83,7 +83,7 @@ module _ (s : Spans) (k : List ℕ) where
 
   -- The plan of insert gives a slot to fill.
   pub plan_fillable : {r : Result InsertPlan Refusal} {i e u : ℕ} → r ≡ planning_insert s k → r ≡ Ok (Free i e u) → Fillable s i u k
-  unfolding planning_insert planning_kept room_for
+  unfolding planning_insert inserting planning_kept room_for
   plan_fillable {r} {i} {e} {u} p q = by_bool (fitting s)
       (λ f.
       let (a, b) = kept_plan_law (keeping k) (rw f at (sym p ∙ q)) (λ x z. clash cc) in
@@ -102,7 +102,7 @@ module _ (s : Spans) (k : List ℕ) where
 
   -- The plan of remove gives a slot to free.
   pub plan_freeable : {r : Result RemovePlan Refusal} {i e u : ℕ} → r ≡ planning_remove s k → r ≡ Ok (Hit i e u) → Freeable s i u
-  unfolding planning_remove
+  unfolding planning_remove removing
   plan_freeable {r} {i} {e} {u} p q = by_bool (fitting s)
       (λ f. by_bool (eqb (asked_of k) 0)
       (λ a. by_bool (full_damage s)

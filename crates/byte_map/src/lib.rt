@@ -10,10 +10,11 @@ ghost use Rattle.byte_slots.specs.Maps.{before, after};
 
 use answers::{Lookup, Refusal, Stored};
 use byte_arena::{fill, free, wipe};
-use byte_slots::{InsertPlan, RemovePlan, map_fits, map_plan_insert, map_plan_remove};
+use byte_slots::{ByteMap, InsertPlan, RemovePlan};
+use tables::Table;
 
 // Makes an empty map of the lent arrays.
-#[tactic(auto, unfolding(kinds::specs::Calls::sized_of), using(crate::proofs::Laws::make_done, kinds::proofs::Sizing::make_unsized))]
+#[tactic(auto, using(tables::proofs::Lent::make_unlent, tables::proofs::Lent::make_lent))]
 pub fn make(
     marks: &mut [u8],
     offsets: &mut [u16],
@@ -23,13 +24,10 @@ pub fn make(
 ) -> Result<(), Refusal>
     ensures { told (outcome_numbers result) (after marks.new offsets.new lengths.new values.new arena.new) ≡ make_of maps (before marks.old offsets.old lengths.old values.old arena.old) }
 {
-    if map_fits(marks, offsets, lengths, values, arena) {
-        wipe(marks, offsets, lengths, arena);
-        values.fill(0);
-        Ok(())
-    } else {
-        Err(Refusal::Sizes)
-    }
+    ByteMap::lent(marks, offsets, lengths, values, arena)?;
+    wipe(marks, offsets, lengths, arena);
+    values.fill(0);
+    Ok(())
 }
 
 // Empties a map: every slot becomes never used, every arena byte 0.
@@ -57,7 +55,9 @@ pub fn insert(
 ) -> Result<Stored<u64>, Refusal>
     ensures { told (stored_numbers result) (after marks.new offsets.new lengths.new values.new arena.new) ≡ insert_of (before marks.old offsets.old lengths.old values.old arena.old) key.now value }
 {
-    let plan = map_plan_insert(marks, offsets, lengths, values, arena, key)?;
+    let plan = ByteMap::lent(marks, offsets, lengths, values, arena)?
+        .keys()
+        .plan_insert(key)?;
     match plan {
         InsertPlan::Hit(slot, examined) => {
             let old = values[slot];
@@ -83,7 +83,9 @@ pub fn remove(
 ) -> Result<Lookup<u64>, Refusal>
     ensures { told (removed_numbers result) (after marks.new offsets.new lengths.new values.new arena.new) ≡ remove_of maps (before marks.old offsets.old lengths.old values.old arena.old) key.now }
 {
-    let plan = map_plan_remove(marks, offsets, lengths, values, arena, key)?;
+    let plan = ByteMap::lent(marks, offsets, lengths, values, arena)?
+        .keys()
+        .plan_remove(key)?;
     match plan {
         RemovePlan::Hit(slot, examined, used) => {
             let old = values[slot];
@@ -96,7 +98,7 @@ pub fn remove(
 }
 
 // Makes a map equal to another of equal sizes, in every slot and byte.
-#[tactic(auto, unfolding(kinds::specs::Calls::sized_of), using(crate::proofs::Laws::copy_done, kinds::proofs::Copying::copy_slots, kinds::proofs::Copying::copy_arena, kinds::proofs::Copying::copy_from_unsized, kinds::proofs::Copying::copy_unsized))]
+#[tactic(auto, using(tables::proofs::Lent::copy_from_unlent, tables::proofs::Lent::copy_unlent))]
 pub fn copy(
     to_marks: &mut [u8],
     to_offsets: &mut [u16],
@@ -111,12 +113,9 @@ pub fn copy(
 ) -> Result<(), Refusal>
     ensures { told (outcome_numbers result) (after to_marks.new to_offsets.new to_lengths.new to_values.new to_arena.new) ≡ copy_of maps (before to_marks.old to_offsets.old to_lengths.old to_values.old to_arena.old) (before marks.now offsets.now lengths.now values.now arena.now) }
 {
-    if !map_fits(to_marks, to_offsets, to_lengths, to_values, to_arena)
-        || !map_fits(marks, offsets, lengths, values, arena)
-    {
-        return Err(Refusal::Sizes);
-    }
-    if to_marks.len() != marks.len() || to_arena.len() != arena.len() {
+    ByteMap::lent(to_marks, to_offsets, to_lengths, to_values, to_arena)?;
+    let from = ByteMap::lent(marks, offsets, lengths, values, arena)?;
+    if to_marks.len() != from.size() || to_arena.len() != arena.len() {
         return Err(Refusal::Sizes);
     }
     arrays::copy(to_marks, marks);

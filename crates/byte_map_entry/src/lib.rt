@@ -12,7 +12,7 @@ ghost use Rattle.byte_map_entry.specs.Numbers.{entered_numbers};
 ghost use Rattle.byte_map_entry.specs.Calls.{vacant_slot_of, handle_of};
 
 use answers::{Case, Numbers, Refusal, case_numbers};
-use byte_slots::{InsertPlan, map_plan_insert};
+use byte_slots::{ByteMap, InsertPlan};
 
 // The handles stand in `byte_map_occupied` and `byte_map_vacant`, and are had here too.
 pub use byte_map_occupied::Occupied;
@@ -38,11 +38,14 @@ pub fn entry(
 ) -> Entered
     ensures { entered_numbers result ≡ entry_of maps (before marks.now offsets.now lengths.now values.now arena.now) key.now }
 {
-    let plan = map_plan_insert(marks, offsets, lengths, values, arena, key);
-    match plan {
+    let map = match ByteMap::lent(marks, offsets, lengths, values, arena) {
+        Ok(map) => map,
+        Err(refusal) => return Entered::Refused(refusal),
+    };
+    match map.keys().plan_insert(key) {
         Ok(InsertPlan::Hit(slot, examined)) => Entered::Occupied(
             Occupied { slot },
-            values[slot],
+            map.value(slot),
             examined,
         ),
         Ok(InsertPlan::Free(slot, examined, _)) => Entered::Vacant(Vacant { slot }, examined),

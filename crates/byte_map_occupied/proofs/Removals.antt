@@ -11,7 +11,7 @@ use Rattle.kinds.specs.Marks.{cell}
 use Rattle.kinds.specs.Probing.{look_at, look_of}
 use Rattle.kinds.specs.Told.{told}
 use Rattle.byte_slots.specs.Keys.{byte_keys}
-use Rattle.byte_slots.specs.Kinds.{maps}
+use Rattle.byte_slots.specs.Kinds.{MapMemory, maps}
 use Rattle.byte_slots.specs.Marks.{mark_of}
 use Rattle.byte_slots.specs.Memory.{Spans, ByteMemory, key_at, used_of, full_damage, fitting, asked_of, emptied, live_at}
 use Rattle.byte_slots.specs.Probing.{sight_at}
@@ -22,7 +22,9 @@ use Rattle.byte_slots.proofs.Sizes.{fitting_says}
 use Rattle.byte_arena.specs.Needs.{Freeable}
 use Rattle.byte_slots.proofs.MapSizes.{sized_fits, same_long}
 use Rattle.byte_map_occupied.specs.Numbers.{taken_numbers}
-use Rattle.byte_map_occupied.specs.Planning.{held_by, value_in, removal_plan_by, planning_removal}
+use Rattle.tables.specs.Reading.{lent_of}
+use Rattle.tables.proofs.Calls.{lent_err, lent_ok}
+use Rattle.byte_map_occupied.specs.Planning.{taking, held_by, value_in, removal_plan_by, planning_removal}
 use Rattle.byte_map_occupied.proofs.Values.{value_of, grip_value}
 use Rattle.byte_map_occupied.specs.declared.Occupied.{Occupied}
 use Rattle.kinds.specs.declared.Sight.{Sight}
@@ -57,7 +59,7 @@ held_same i w u v x (Ok Other) e = clash cc
 module _ (m : ByteMemory values) (i : ℕ) (k : List ℕ) where
   -- an occupied handle's removal, by its plan
   remove_planned : occupied_remove maps m i k ≡ removed_of (planning_removal m i k)
-  unfolding occupied_remove planning_removal sized_of need pass
+  unfolding occupied_remove planning_removal taking sized_of need pass
   remove_planned = by_bool (fitting m.spans && eqb (length m.spans.marks) (length m.words))
       (λ f. rw f (by_bool (eqb (asked_of k) 0)
       (λ a. rw (a, eqb-true (asked_of k) 0 a) (by_bool (full_damage m.spans)
@@ -77,7 +79,7 @@ module _ (m : ByteMemory values) (i : ℕ) (k : List ℕ) where
       (λ l e. clash (cc (rw e at q)))
 
   freeable : {v u : ℕ} → planning_removal m i k ≡ Ok (v, u) → Freeable m.spans i u × (i < length m.words)
-  unfolding planning_removal
+  unfolding planning_removal taking
   freeable q = by_bool (sized_of maps m)
       (λ f. by_bool (eqb (asked_of k) 0)
       (λ a. by_bool (full_damage m.spans)
@@ -98,8 +100,12 @@ module _ (m : ByteMemory values) (i : ℕ) (k : List ℕ) where
       (λ a. clash (cc (rw (f, a) at q))))
       (λ f. clash (cc (rw f at q)))
 
-  -- where the plan answered r
-  module _ {r : Result (ℕ × ℕ) Refusal} (p : r ≡ planning_removal m i k) where
+  -- where the plan of what was lent answered r
+  module _ {l : Result MapMemory Refusal} {n : MapMemory} (o : l ≡ lent_of maps m) (j : l ≡ Ok n) {r : Result (ℕ × ℕ) Refusal} (w : r ≡ taking n i k) where
+    p : r ≡ planning_removal m i k
+    unfolding planning_removal sized_of
+    p = let (f, e) = lent_ok maps m o j in rw (w, e, f)
+
     pub removal_freeable : {v u : ℕ} → r ≡ Ok (v, u) → Freeable m.spans i u
     removal_freeable q = (freeable (sym p ∙ q)).0
 
@@ -116,3 +122,8 @@ module _ (m : ByteMemory values) (i : ℕ) (k : List ℕ) where
     pub remove_refused : {x : Refusal} → r ≡ Err x → told (taken_numbers (Err x)) m ≡ taken_of maps m i k
     unfolding taken_of after_drop acted taken_numbers taken_said
     remove_refused q = rw (planned q)
+
+  -- the same, where the sizes are wrong
+  pub remove_unlent : {l : Result MapMemory Refusal} {x : Refusal} → l ≡ lent_of maps m → l ≡ Err x → told (taken_numbers (Err x)) m ≡ taken_of maps m i k
+  unfolding taken_of after_drop acted taken_numbers taken_said planning_removal sized_of
+  remove_unlent l q = let (f, e) = lent_err maps m l q in rw (remove_planned, f, e)

@@ -11,7 +11,7 @@ use Rattle.kinds.specs.Marks.{cell}
 use Rattle.kinds.specs.Probing.{look_at, look_of}
 use Rattle.kinds.specs.Told.{told}
 use Rattle.byte_slots.specs.Keys.{same_bytes}
-use Rattle.byte_slots.specs.Kinds.{maps}
+use Rattle.byte_slots.specs.Kinds.{MapMemory, maps}
 use Rattle.byte_slots.specs.Marks.{mark_of}
 use Rattle.byte_slots.specs.Memory.{ByteMemory, key_at, fitting, asked_of}
 use Rattle.byte_slots.specs.Probing.{sight_at}
@@ -20,7 +20,9 @@ use Rattle.byte_slots.proofs.Marks.{slot_cell}
 use Rattle.byte_slots.proofs.MapSizes.{same_long}
 use Rattle.byte_map_occupied.specs.declared.Occupied.{Occupied}
 use Rattle.byte_map_occupied.specs.Numbers.{held_numbers, swapped_numbers}
-use Rattle.byte_map_occupied.specs.Planning.{held_by, value_in, value_for}
+use Rattle.tables.specs.Reading.{lent_of}
+use Rattle.tables.proofs.Calls.{lent_err, lent_ok}
+use Rattle.byte_map_occupied.specs.Planning.{asking, held_by, value_in, value_for}
 use Rattle.kinds.specs.declared.Sight.{Sight}
 use Rattle.kinds.specs.declared.Sight.TheVariants.{Never, Freed, Same, Other}
 
@@ -56,7 +58,7 @@ module _ (m : ByteMemory values) (i : ℕ) (k : List ℕ) where
 
   -- an occupied handle's get, by its plan
   get_value : occupied_get maps m i k ≡ value_of (value_for m i k)
-  unfolding occupied_get value_for sized_of need pass
+  unfolding occupied_get value_for asking sized_of need pass
   get_value = by_bool (fitting m.spans && eqb (length m.spans.marks) (length m.words))
       (λ f. rw f (by_bool (eqb (asked_of k) 0)
       (λ a. rw (a, eqb-true (asked_of k) 0 a) grip_value)
@@ -71,15 +73,24 @@ module _ (m : ByteMemory values) (i : ℕ) (k : List ℕ) where
       (λ l e. clash (cc (rw e at q)))
 
   good_value : {v : ℕ} {h : Occupied} → value_for m i k ≡ Ok (v, h) → (length m.words ≡ length m.spans.marks) × (i < length m.spans.marks) × (h.slot ≡ i)
-  unfolding value_for
+  unfolding value_for asking
   good_value q = by_bool (sized_of maps m)
       (λ f. by_bool (eqb (asked_of k) 0)
       (λ a. let (x, y) = good_in (rw (f, a) at q) in ((same_long m (sym f) refl).2, x, y))
       (λ a. clash (cc (rw (f, a) at q))))
       (λ f. clash (cc (rw f at q)))
 
-  -- where the plan answered r
-  module _ {r : Result (ℕ × Occupied) Refusal} (p : r ≡ value_for m i k) where
+  -- wrong sizes, by what was lent
+  unlent : {l : Result MapMemory Refusal} {x : Refusal} → l ≡ lent_of maps m → l ≡ Err x → Err x ≡ value_for m i k
+  unfolding value_for sized_of
+  unlent l q = let (f, e) = lent_err maps m l q in rw (f, e)
+
+  -- where the plan of what was lent answered r
+  module _ {l : Result MapMemory Refusal} {n : MapMemory} (o : l ≡ lent_of maps m) (j : l ≡ Ok n) {r : Result (ℕ × Occupied) Refusal} (w : r ≡ asking n i k) where
+    p : r ≡ value_for m i k
+    unfolding value_for sized_of
+    p = let (f, e) = lent_ok maps m o j in rw (w, e, f)
+
     get_ok : {v : ℕ} {h : Occupied} → r ≡ Ok (v, h) → occupied_get maps m i k ≡ ok v
     get_ok q = rw (get_value, ← p, q)
 
@@ -104,3 +115,16 @@ module _ (m : ByteMemory values) (i : ℕ) (k : List ℕ) where
     pub set_refused : {x : Refusal} (v : ℕ) → r ≡ Err x → told (swapped_numbers (Err x)) m ≡ set_of maps m i k v
     unfolding set_of after_set acted swapped_numbers swapped_said
     set_refused v q = rw (get_no q)
+
+  -- the same, where the sizes are wrong
+  module _ {l : Result MapMemory Refusal} {x : Refusal} (o : l ≡ lent_of maps m) (j : l ≡ Err x) where
+    refused : occupied_get maps m i k ≡ no (number_of x)
+    refused = rw (get_value, ← unlent o j)
+
+    pub get_unlent : held_numbers (Err x) ≡ held_of maps m i k
+    unfolding held_of held_numbers held_said
+    get_unlent = rw refused
+
+    pub set_unlent : (v : ℕ) → told (swapped_numbers (Err x)) m ≡ set_of maps m i k v
+    unfolding set_of after_set acted swapped_numbers swapped_said
+    set_unlent v = rw refused

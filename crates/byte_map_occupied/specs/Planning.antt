@@ -24,23 +24,26 @@ held_by i v (Ok Other) = Err refusal.BadHandle
 unfoldable pub value_in : ByteMemory values → ℕ → List ℕ → Result (ℕ × Occupied) Refusal
 value_in m i k = cond (ltb i (length m.spans.marks)) (held_by i (get_or m.words i 0) (sight_at m.spans k i)) (Err refusal.BadHandle)
 
--- The plan of an occupied handle's get and set: refusals 1 and 2, then what the slot says.
+-- The plan of an occupied handle's get and set, where the sizes are right: refusal 2, then what the slot says.
+unfoldable pub asking : ByteMemory values → ℕ → List ℕ → Result (ℕ × Occupied) Refusal
+asking m i k = cond (eqb (asked_of k) 0) (value_in m i k) (Err refusal.LongKey)
+
+-- The whole plan: refusal 1 first.
 unfoldable pub value_for : ByteMemory values → ℕ → List ℕ → Result (ℕ × Occupied) Refusal
-value_for m i k =
-    cond (sized_of maps m)
-    (cond (eqb (asked_of k) 0) (value_in m i k) (Err refusal.LongKey))
-    (Err refusal.Sizes)
+value_for m i k = cond (sized_of maps m) (asking m i k) (Err refusal.Sizes)
 
 -- What a removal makes of a handle's test, where u bytes are used.
 unfoldable pub removal_plan_by : ℕ → Result (ℕ × Occupied) Refusal → Result (ℕ × ℕ) Refusal
 removal_plan_by u (Ok (v, h)) = Ok (v, u)
 removal_plan_by u (Err r) = Err r
 
--- The plan of an occupied handle's removal: refusals 1, 2 and 5, then what the slot says.
-unfoldable pub planning_removal : ByteMemory values → ℕ → List ℕ → Result (ℕ × ℕ) Refusal
-planning_removal m i k =
-    cond (sized_of maps m)
-    (cond (eqb (asked_of k) 0)
+-- The plan of an occupied handle's removal, where the sizes are right: refusals 2 and 5, then what the slot says.
+unfoldable pub taking : ByteMemory values → ℕ → List ℕ → Result (ℕ × ℕ) Refusal
+taking m i k =
+    cond (eqb (asked_of k) 0)
     (cond (full_damage m.spans) (Err refusal.Damaged) (removal_plan_by (used_of m.spans) (value_in m i k)))
-    (Err refusal.LongKey))
-    (Err refusal.Sizes)
+    (Err refusal.LongKey)
+
+-- The whole plan: refusal 1 first.
+unfoldable pub planning_removal : ByteMemory values → ℕ → List ℕ → Result (ℕ × ℕ) Refusal
+planning_removal m i k = cond (sized_of maps m) (taking m i k) (Err refusal.Sizes)

@@ -1,17 +1,18 @@
 // The byte map's occupied handles: small values that their own calls take and hand back; the key is given again each time.
 #![tactic(auto)]
 
-ghost use Rattle.std.specs.Prelude.{◌≡◌, length};
+ghost use Rattle.std.specs.Prelude.{◌≡◌};
 ghost use Rattle.kinds.specs.Calls.{held_of, set_of, taken_of};
 ghost use Rattle.kinds.specs.Told.{told};
 ghost use Rattle.byte_slots.specs.Kinds.{maps};
 ghost use Rattle.byte_slots.specs.Maps.{before, after};
 ghost use Rattle.byte_map_occupied.specs.Numbers.{held_numbers, swapped_numbers, taken_numbers};
-ghost use Rattle.byte_map_occupied.specs.Planning.{held_by, value_in, value_for, planning_removal};
+ghost use Rattle.byte_map_occupied.specs.Planning.{held_by, value_in, asking, taking};
 
 use answers::{Case, Numbers, Refusal, case_numbers};
-use byte_slots::{look, map_fits, may_ask, survey};
+use byte_slots::{ByteMap, may_ask};
 use kinds::Sight;
+use tables::Table;
 
 // A handle of a slot that holds a key.
 #[derive(Clone, Copy, Debug, PartialEq, Eq)]
@@ -34,79 +35,44 @@ fn held_by(
     }
 }
 
-// What an occupied handle of this slot holds for the key, where sizes fit.
-#[tactic(auto, unfolding(crate::specs::Planning::value_in))]
-fn value_in(
-    marks: &[u8],
-    offsets: &[u16],
-    lengths: &[u8],
-    values: &[u64],
-    arena: &[u8],
-    slot: usize,
-    key: &[u8],
-) -> Result<(u64, Occupied), Refusal>
-    requires { (length offsets.now ≡ length marks.now) × (length lengths.now ≡ length marks.now) × (length values.now ≡ length marks.now) }
-    ensures { result ≡ value_in (before marks.now offsets.now lengths.now values.now arena.now) slot key.now }
+// What an occupied handle of this slot holds for the key.
+#[tactic(auto, unfolding(crate::specs::Planning::value_in), using(byte_slots::proofs::Views::look_sight))]
+fn value_in(map: &ByteMap, slot: usize, key: &[u8]) -> Result<(u64, Occupied), Refusal>
+    ensures { result ≡ value_in map.now slot key.now }
 {
-    if marks.len() <= slot {
+    if map.size() <= slot {
         return Err(Refusal::BadHandle);
     }
-    held_by(
-        look(marks, offsets, lengths, arena, slot, key),
-        slot,
-        values[slot],
-    )
+    held_by(map.look(slot, key), slot, map.value(slot))
 }
 
 // The plan of an occupied handle's get and set: the value in the slot, or a refusal.
-#[tactic(auto, unfolding(crate::specs::Planning::value_for))]
-fn value_of(
-    marks: &[u8],
-    offsets: &[u16],
-    lengths: &[u8],
-    values: &[u64],
-    arena: &[u8],
-    slot: usize,
-    key: &[u8],
-) -> Result<(u64, Occupied), Refusal>
-    ensures { result ≡ value_for (before marks.now offsets.now lengths.now values.now arena.now) slot key.now }
+#[tactic(auto, unfolding(crate::specs::Planning::asking))]
+fn value_of(map: &ByteMap, slot: usize, key: &[u8]) -> Result<(u64, Occupied), Refusal>
+    ensures { result ≡ asking map.now slot key.now }
 {
-    if !map_fits(marks, offsets, lengths, values, arena) {
-        return Err(Refusal::Sizes);
-    }
     if !may_ask(key) {
         return Err(Refusal::LongKey);
     }
-    value_in(marks, offsets, lengths, values, arena, slot, key)
+    value_in(map, slot, key)
 }
 
 // The plan of an occupied handle's removal: every slot is examined, then the handle's.
-#[tactic(auto, unfolding(crate::specs::Planning::planning_removal, crate::specs::Planning::removal_plan_by, byte_slots::specs::Surveying::surveying))]
-fn plan_removal(
-    marks: &[u8],
-    offsets: &[u16],
-    lengths: &[u8],
-    values: &[u64],
-    arena: &[u8],
-    slot: usize,
-    key: &[u8],
-) -> Result<(u64, usize), Refusal>
-    ensures { result ≡ planning_removal (before marks.now offsets.now lengths.now values.now arena.now) slot key.now }
+#[tactic(auto, unfolding(crate::specs::Planning::taking, crate::specs::Planning::removal_plan_by, byte_slots::specs::Surveying::surveying))]
+fn plan_removal(map: &ByteMap, slot: usize, key: &[u8]) -> Result<(u64, usize), Refusal>
+    ensures { result ≡ taking map.now slot key.now }
 {
-    if !map_fits(marks, offsets, lengths, values, arena) {
-        return Err(Refusal::Sizes);
-    }
     if !may_ask(key) {
         return Err(Refusal::LongKey);
     }
-    let used = survey(marks, offsets, lengths, arena)?;
-    let (value, _) = value_in(marks, offsets, lengths, values, arena, slot, key)?;
+    let used = map.keys().survey()?;
+    let (value, _) = value_in(map, slot, key)?;
     Ok((value, used))
 }
 
 impl Occupied {
     // The value in the slot.
-    #[tactic(auto, using(crate::proofs::Values::get_held))]
+    #[tactic(auto, using(crate::proofs::Values::get_held, crate::proofs::Values::get_unlent))]
     pub fn get(
         self,
         marks: &[u8],
@@ -118,11 +84,12 @@ impl Occupied {
     ) -> Result<(u64, Occupied), Refusal>
         ensures { held_numbers result ≡ held_of maps (before marks.now offsets.now lengths.now values.now arena.now) self.slot key.now }
     {
-        value_of(marks, offsets, lengths, values, arena, self.slot, key)
+        let map = ByteMap::lent(marks, offsets, lengths, values, arena)?;
+        value_of(&map, self.slot, key)
     }
 
     // Gives the slot another value; the old one is answered.
-    #[tactic(auto, using(crate::proofs::Values::set_refused))]
+    #[tactic(auto, using(crate::proofs::Values::set_refused, crate::proofs::Values::set_unlent))]
     pub fn set(
         self,
         marks: &mut [u8],
@@ -136,13 +103,14 @@ impl Occupied {
         ensures { told (swapped_numbers result) (after marks.new offsets.new lengths.new values.new arena.new) ≡ set_of maps (before marks.old offsets.old lengths.old values.old arena.old) self.slot key.now value }
     {
         let Occupied { slot } = self;
-        let (old, _) = value_of(marks, offsets, lengths, values, arena, slot, key)?;
+        let map = ByteMap::lent(marks, offsets, lengths, values, arena)?;
+        let (old, _) = value_of(&map, slot, key)?;
         values[slot] = value;
         Ok((old, Occupied { slot }))
     }
 
     // Frees the slot; its value is answered.
-    #[tactic(auto, using(crate::proofs::Removals::remove_refused))]
+    #[tactic(auto, using(crate::proofs::Removals::remove_refused, crate::proofs::Removals::remove_unlent))]
     pub fn remove(
         self,
         marks: &mut [u8],
@@ -155,7 +123,8 @@ impl Occupied {
         ensures { told (taken_numbers result) (after marks.new offsets.new lengths.new values.new arena.new) ≡ taken_of maps (before marks.old offsets.old lengths.old values.old arena.old) self.slot key.now }
     {
         let Occupied { slot } = self;
-        let (old, used) = plan_removal(marks, offsets, lengths, values, arena, slot, key)?;
+        let map = ByteMap::lent(marks, offsets, lengths, values, arena)?;
+        let (old, used) = plan_removal(&map, slot, key)?;
         values[slot] = 0;
         byte_arena::free(marks, offsets, lengths, arena, slot, used);
         Ok(old)

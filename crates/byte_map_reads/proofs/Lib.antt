@@ -1,3 +1,2 @@
--- The laws of the reading calls of byte maps.
-pub mod Laws
+-- What the contracts of the reading calls of byte maps settle.
 pub mod Settled

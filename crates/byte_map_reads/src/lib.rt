@@ -1,4 +1,4 @@
-// The calls of a byte map that only read: those that tell no value are the calls of its keys' set, where there are as many values as marks. Each contract is one equation with a definition of the theory at this store.
+// The calls of a byte map that only read. Each contract is one equation with a definition of the theory at this store.
 #![tactic(auto)]
 
 ghost use Rattle.std.specs.Prelude.{◌≡◌};
@@ -8,10 +8,11 @@ ghost use Rattle.byte_slots.specs.Kinds.{maps};
 ghost use Rattle.byte_slots.specs.Maps.{before};
 
 use answers::{Contained, Lookup, Refusal};
-use byte_slots::map_probe;
-use kinds::Probed;
+use byte_slots::ByteMap;
+use kinds::{Probed, reserved_by};
 
 // The number of slots.
+#[tactic(auto, using(tables::proofs::Calls::capacity_refused, tables::proofs::Calls::lent_is))]
 pub fn capacity(
     marks: &[u8],
     offsets: &[u16],
@@ -21,13 +22,11 @@ pub fn capacity(
 ) -> Result<usize, Refusal>
     ensures { counted_numbers result ≡ capacity_of maps (before marks.now offsets.now lengths.now values.now arena.now) }
 {
-    if marks.len() != values.len() {
-        return Err(Refusal::Sizes);
-    }
-    byte_set_reads::capacity(marks, offsets, lengths, arena)
+    tables::capacity(&ByteMap::lent(marks, offsets, lengths, values, arena)?)
 }
 
 // The number of keys.
+#[tactic(auto, using(tables::proofs::Calls::len_refused, tables::proofs::Calls::lent_is))]
 pub fn len(
     marks: &[u8],
     offsets: &[u16],
@@ -37,13 +36,11 @@ pub fn len(
 ) -> Result<usize, Refusal>
     ensures { counted_numbers result ≡ len_of maps (before marks.now offsets.now lengths.now values.now arena.now) }
 {
-    if marks.len() != values.len() {
-        return Err(Refusal::Sizes);
-    }
-    byte_set_reads::len(marks, offsets, lengths, arena)
+    tables::len(&ByteMap::lent(marks, offsets, lengths, values, arena)?)
 }
 
 // Whether there is no key.
+#[tactic(auto, using(tables::proofs::Calls::empty_refused, tables::proofs::Calls::lent_is))]
 pub fn is_empty(
     marks: &[u8],
     offsets: &[u16],
@@ -53,13 +50,11 @@ pub fn is_empty(
 ) -> Result<bool, Refusal>
     ensures { emptiness_numbers result ≡ is_empty_of maps (before marks.now offsets.now lengths.now values.now arena.now) }
 {
-    if marks.len() != values.len() {
-        return Err(Refusal::Sizes);
-    }
-    byte_set_reads::is_empty(marks, offsets, lengths, arena)
+    tables::is_empty(&ByteMap::lent(marks, offsets, lengths, values, arena)?)
 }
 
-// Whether so many slots are not live.
+// Whether so many slots are not live, and so many arena bytes not used; damage as insert finds it.
+#[tactic(auto, using(tables::proofs::Calls::reserve_refused, tables::proofs::Calls::lent_is, tables::proofs::Calls::lent_sized, byte_slots::proofs::Lookups::reserve_bad, byte_slots::proofs::Lookups::reserve_room, byte_slots::proofs::Plans::surveyed_within))]
 pub fn reserve(
     marks: &[u8],
     offsets: &[u16],
@@ -71,14 +66,13 @@ pub fn reserve(
 ) -> Result<(), Refusal>
     ensures { reserved_numbers result ≡ reserve_of maps (before marks.now offsets.now lengths.now values.now arena.now) keys bytes }
 {
-    if marks.len() != values.len() {
-        return Err(Refusal::Sizes);
-    }
-    byte_set_reads::reserve(marks, offsets, lengths, arena, keys, bytes)
+    let map = ByteMap::lent(marks, offsets, lengths, values, arena)?;
+    let used = map.keys().survey()?;
+    reserved_by(map.keys().free_slots(), arena.len() - used, keys, bytes)
 }
 
 // The value of a key, with its slot and the examined number.
-#[tactic(auto, using(crate::proofs::Laws::get_missed))]
+#[tactic(auto, using(tables::proofs::Calls::lent_is, tables::proofs::Calls::lent_sized, byte_slots::proofs::Lookups::map_get_refused, byte_slots::proofs::Lookups::map_get_long, byte_slots::proofs::Lookups::map_get_hit, byte_slots::proofs::Lookups::map_get_absent, byte_slots::proofs::Lookups::map_get_bad))]
 pub fn get(
     marks: &[u8],
     offsets: &[u16],
@@ -89,13 +83,18 @@ pub fn get(
 ) -> Result<Lookup<u64>, Refusal>
     ensures { got_numbers result ≡ get_of maps (before marks.now offsets.now lengths.now values.now arena.now) key.now }
 {
-    match map_probe(marks, offsets, lengths, values, arena, key)? {
-        Probed::Hit(slot, examined) => Ok(Lookup::Found(values[slot], slot, examined)),
+    let map = ByteMap::lent(marks, offsets, lengths, values, arena)?;
+    if !byte_slots::may_ask(key) {
+        return Err(Refusal::LongKey);
+    }
+    match tables::probe(&map, key)? {
+        Probed::Hit(slot, examined) => Ok(Lookup::Found(map.value(slot), slot, examined)),
         Probed::Free(_, examined) | Probed::Full(examined) => Ok(Lookup::Absent(examined)),
     }
 }
 
 // Whether a key is there, with the examined number.
+#[tactic(auto, using(tables::proofs::Calls::contains_refused, tables::proofs::Calls::lent_is, tables::proofs::Calls::lent_sized, byte_slots::proofs::Lookups::contains_long))]
 pub fn contains_key(
     marks: &[u8],
     offsets: &[u16],
@@ -106,8 +105,9 @@ pub fn contains_key(
 ) -> Result<Contained, Refusal>
     ensures { contained_numbers result ≡ contains_of maps (before marks.now offsets.now lengths.now values.now arena.now) key.now }
 {
-    if marks.len() != values.len() {
-        return Err(Refusal::Sizes);
+    let map = ByteMap::lent(marks, offsets, lengths, values, arena)?;
+    if !byte_slots::may_ask(key) {
+        return Err(Refusal::LongKey);
     }
-    byte_set_reads::contains(marks, offsets, lengths, arena, key)
+    tables::contains(&map, key)
 }

@@ -15,10 +15,13 @@ use Rattle.kinds.specs.Probing.{along}
 use Rattle.kinds.specs.Told.{told}
 use Rattle.kinds.proofs.Bridge.{spot_in}
 use Rattle.byte_slots.specs.Keys.{byte_keys}
-use Rattle.byte_slots.specs.Kinds.{maps}
+use Rattle.byte_slots.specs.Kinds.{MapMemory, maps}
+use Rattle.tables.specs.Reading.{lent_of}
+use Rattle.tables.proofs.Calls.{lent_err}
+use Rattle.byte_slots.proofs.Views.{lent_map_insert}
 use Rattle.byte_slots.specs.Marks.{mark_of}
 use Rattle.byte_slots.specs.Memory.{Spans, ByteMemory, key_at, filled, used_of, full_damage, fitting, keeping, kept_of}
-use Rattle.byte_slots.specs.Planning.{insert_plan_by, room_for, planning_kept, planning_insert, planning_map_insert}
+use Rattle.byte_slots.specs.Planning.{insert_plan_by, room_for, inserting, planning_kept, planning_insert, planning_map_insert}
 use Rattle.byte_slots.specs.Probing.{path_from, path_of}
 use Rattle.byte_slots.proofs.Bridge.{spot_is, short_refused, pass_kept}
 use Rattle.byte_arena.specs.Needs.{Fillable}
@@ -72,7 +75,7 @@ module _ (m : ByteMemory values) (i : ℕ) (k : List ℕ) where
   vacancy_short e = short_refused values m _ e
 
   vacancy_planning : eqb (length m.spans.marks) (length m.words) ≡ true → vacancy maps m i k ≡ worth_of (vacancy_by i (planning_insert m.spans k))
-  unfolding vacancy need planning_insert planning_kept kept_of vacancy_by handle_refusal
+  unfolding vacancy need planning_insert inserting planning_kept kept_of vacancy_by handle_refusal
   vacancy_planning long = rw long (by_bool (fitting m.spans)
       (λ f. rw f (pass_kept (λ p. worth_of (vacancy_by i p)) (keeping k) _ _ (λ r e. rw (kept_stays k r e)) (by_bool (full_damage m.spans)
       (λ h. rw h)
@@ -84,8 +87,11 @@ module _ (m : ByteMemory values) (i : ℕ) (k : List ℕ) where
   unfolding planning_map_insert vacancy_by handle_refusal
   vacancy_planned = by_long m (planning_insert m.spans k) (Err Sizes) (λ p. worth_of (vacancy_by i p)) (vacancy maps m i k) vacancy_planning vacancy_short
 
-  -- where insert's plan is p, and the handle's r
-  module _ {p : Result InsertPlan Refusal} {r : Result ℕ Refusal} (w : p ≡ planning_map_insert m k) (y : r ≡ vacancy_by i p) where
+  -- where insert's plan over what was lent is p, and the handle's r
+  module _ {l : Result MapMemory Refusal} {n : MapMemory} (o : l ≡ lent_of maps m) (j : l ≡ Ok n) {t : Spans} (same : t ≡ n.spans) {p : Result InsertPlan Refusal} (a : p ≡ inserting t k) {r : Result ℕ Refusal} (y : r ≡ vacancy_by i p) where
+    w : p ≡ planning_map_insert m k
+    w = lent_map_insert m k o j (rw same at a)
+
     worth : {x : Result ℕ Refusal} → r ≡ x → vacancy maps m i k ≡ worth_of x
     worth q = rw (← q, y, w) vacancy_planned
 
@@ -105,3 +111,8 @@ module _ (m : ByteMemory values) (i : ℕ) (k : List ℕ) where
     pub insert_refused : (v : ℕ) {x : Refusal} → r ≡ Err x → told (in_slot_numbers (Err x)) m ≡ vacant_insert_of maps m i k v
     unfolding vacant_insert_of vacant_insert after_fill give acted in_slot_numbers in_slot_said
     insert_refused v q = rw (worth q)
+
+  -- the same, where the sizes are wrong
+  pub insert_unlent : (v : ℕ) {l : Result MapMemory Refusal} {x : Refusal} → l ≡ lent_of maps m → l ≡ Err x → told (in_slot_numbers (Err x)) m ≡ vacant_insert_of maps m i k v
+  unfolding vacant_insert_of vacant_insert after_fill give acted in_slot_numbers in_slot_said vacancy need
+  insert_unlent v o q = let (f, e) = lent_err maps m o q in rw (f, e)

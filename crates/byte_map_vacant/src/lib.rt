@@ -11,7 +11,7 @@ ghost use Rattle.byte_map_vacant.specs.Planning.{handle_refusal, vacancy_by};
 
 use answers::{Case, Numbers, Refusal, case_numbers};
 use byte_map_occupied::Occupied;
-use byte_slots::{InsertPlan, map_plan_insert};
+use byte_slots::{ByteMap, InsertPlan};
 
 // A handle of the slot that a key would take.
 #[derive(Clone, Copy, Debug, PartialEq, Eq)]
@@ -49,7 +49,7 @@ fn vacancy_by(plan: Result<InsertPlan, Refusal>, slot: usize) -> Result<usize, R
 
 impl Vacant {
     // Puts the key and a value into the slot, where insert would use that very slot.
-    #[tactic(auto, using(crate::proofs::Vacancies::insert_refused))]
+    #[tactic(auto, using(crate::proofs::Vacancies::insert_unlent))]
     pub fn insert(
         self,
         marks: &mut [u8],
@@ -63,8 +63,8 @@ impl Vacant {
         ensures { told (in_slot_numbers result) (after marks.new offsets.new lengths.new values.new arena.new) ≡ vacant_insert_of maps (before marks.old offsets.old lengths.old values.old arena.old) self.slot key.now value }
     {
         let Vacant { slot } = self;
-        let plan = map_plan_insert(marks, offsets, lengths, values, arena, key);
-        let used = vacancy_by(plan, slot)?;
+        let map = ByteMap::lent(marks, offsets, lengths, values, arena)?;
+        let used = vacancy_by(map.keys().plan_insert(key), slot)?;
         values[slot] = value;
         byte_arena::fill(marks, offsets, lengths, arena, slot, used, key);
         Ok((Occupied { slot }, value))

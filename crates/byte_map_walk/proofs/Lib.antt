@@ -1,3 +1,2 @@
--- The laws of walks of byte maps.
-pub mod Equal
+-- What the contracts of walks of byte maps settle.
 pub mod Settled

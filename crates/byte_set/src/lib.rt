@@ -10,10 +10,11 @@ ghost use Rattle.byte_slots.specs.Sets.{before, after};
 
 use answers::{Lookup, Refusal, Stored};
 use byte_arena::{fill, free, wipe};
-use byte_slots::{InsertPlan, RemovePlan, fits, plan_insert, plan_remove};
+use byte_slots::{ByteSet, InsertPlan, RemovePlan};
+use tables::Table;
 
 // Makes an empty set of the lent arrays.
-#[tactic(auto, unfolding(kinds::specs::Calls::make_of), using(crate::proofs::Laws::make_done, kinds::proofs::Sizing::make_unsized, byte_slots::proofs::Sets::unfit))]
+#[tactic(auto, using(tables::proofs::Lent::make_unlent, tables::proofs::Lent::make_lent))]
 pub fn make(
     marks: &mut [u8],
     offsets: &mut [u16],
@@ -22,12 +23,9 @@ pub fn make(
 ) -> Result<(), Refusal>
     ensures { told (outcome_numbers result) (after marks.new offsets.new lengths.new arena.new) ≡ make_of sets (before marks.old offsets.old lengths.old arena.old) }
 {
-    if fits(marks, offsets, lengths, arena) {
-        wipe(marks, offsets, lengths, arena);
-        Ok(())
-    } else {
-        Err(Refusal::Sizes)
-    }
+    ByteSet::lent(marks, offsets, lengths, arena)?;
+    wipe(marks, offsets, lengths, arena);
+    Ok(())
 }
 
 // Empties a set: every slot becomes never used, every arena byte 0.
@@ -52,7 +50,7 @@ pub fn insert(
 ) -> Result<Stored<()>, Refusal>
     ensures { told (joined_numbers result) (after marks.new offsets.new lengths.new arena.new) ≡ set_insert_of (before marks.old offsets.old lengths.old arena.old) key.now }
 {
-    let plan = plan_insert(marks, offsets, lengths, arena, key)?;
+    let plan = ByteSet::lent(marks, offsets, lengths, arena)?.plan_insert(key)?;
     match plan {
         InsertPlan::Hit(slot, examined) => Ok(Stored::Replaced((), slot, examined)),
         InsertPlan::Free(slot, examined, used) => {
@@ -72,7 +70,7 @@ pub fn remove(
 ) -> Result<Lookup<()>, Refusal>
     ensures { told (dropped_numbers result) (after marks.new offsets.new lengths.new arena.new) ≡ dropped_of sets (before marks.old offsets.old lengths.old arena.old) key.now }
 {
-    let plan = plan_remove(marks, offsets, lengths, arena, key)?;
+    let plan = ByteSet::lent(marks, offsets, lengths, arena)?.plan_remove(key)?;
     match plan {
         RemovePlan::Hit(slot, examined, used) => {
             free(marks, offsets, lengths, arena, slot, used);
@@ -83,7 +81,7 @@ pub fn remove(
 }
 
 // Makes a set equal to another of equal sizes, in every slot and byte.
-#[tactic(auto, using(crate::proofs::Laws::copy_done, kinds::proofs::Copying::copy_slots, kinds::proofs::Copying::copy_arena, kinds::proofs::Copying::copy_from_unsized, kinds::proofs::Copying::copy_unsized, byte_slots::proofs::Sets::fit, byte_slots::proofs::Sets::unfit))]
+#[tactic(auto, using(tables::proofs::Lent::copy_from_unlent, tables::proofs::Lent::copy_unlent))]
 pub fn copy(
     to_marks: &mut [u8],
     to_offsets: &mut [u16],
@@ -96,10 +94,9 @@ pub fn copy(
 ) -> Result<(), Refusal>
     ensures { told (outcome_numbers result) (after to_marks.new to_offsets.new to_lengths.new to_arena.new) ≡ copy_of sets (before to_marks.old to_offsets.old to_lengths.old to_arena.old) (before marks.now offsets.now lengths.now arena.now) }
 {
-    if !fits(to_marks, to_offsets, to_lengths, to_arena) || !fits(marks, offsets, lengths, arena) {
-        return Err(Refusal::Sizes);
-    }
-    if to_marks.len() != marks.len() || to_arena.len() != arena.len() {
+    ByteSet::lent(to_marks, to_offsets, to_lengths, to_arena)?;
+    let from = ByteSet::lent(marks, offsets, lengths, arena)?;
+    if to_marks.len() != from.size() || to_arena.len() != arena.len() {
         return Err(Refusal::Sizes);
     }
     arrays::copy(to_marks, marks);

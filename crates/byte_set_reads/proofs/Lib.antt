@@ -1,3 +1,2 @@
--- The laws of the reading calls of byte sets.
-pub mod Laws
+-- What the contracts of the reading calls of byte sets settle.
 pub mod Settled

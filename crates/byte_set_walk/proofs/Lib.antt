@@ -1,3 +1,2 @@
--- The laws of walks of byte sets.
-pub mod Equal
+-- What the contracts of walks of byte sets settle.
 pub mod Settled

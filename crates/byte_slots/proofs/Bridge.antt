@@ -19,7 +19,7 @@ use Rattle.kinds.proofs.Bridge.{seen_of, spot_in, path_cells, seen_path, spot_pa
 use Rattle.kinds.proofs.Uniting.{rule_of, lacking_probed, rule_probed}
 use Rattle.byte_slots.specs.Memory.{ByteMemory, byte_store, key_at, used_of, full_damage, fitting, asked_of, keeping, kept_number, kept_of}
 use Rattle.byte_slots.specs.Marks.{mark_of}
-use Rattle.byte_slots.specs.Planning.{insert_plan_by, room_for, planning_kept, kept_plan, planning_insert, remove_plan_by, planning_remove}
+use Rattle.byte_slots.specs.Planning.{insert_plan_by, room_for, planning_kept, kept_plan, planning_insert, remove_plan_by, planning_remove, inserting, removing}
 use Rattle.byte_slots.specs.Probing.{path_from, path_of, probing}
 use Rattle.byte_slots.specs.Scanning.{scanning}
 use Rattle.byte_slots.proofs.Held.{bare_damaged, unharmed_whole}
@@ -148,7 +148,7 @@ module _ {W : Type 0} (C : Column W) (m : ByteMemory C) where
           (λ f. rw f))
 
       pub remove_planning : remove (byte_store C) m k ≡ lost_of (C.read m.words) (planning_remove m.spans k)
-      unfolding remove need pass planning_remove
+      unfolding remove need pass planning_remove removing
       remove_planning = rw long (by_bool (fitting m.spans)
           (λ f. rw f (by_bool (eqb (asked_of k) 0)
           (λ a. rw (a, eqb-true (asked_of k) 0 a) (by_bool (full_damage m.spans)
@@ -158,7 +158,7 @@ module _ {W : Type 0} (C : Column W) (m : ByteMemory C) where
           (λ f. rw f))
 
       pub entry_planning : entry (byte_store C) m k ≡ spot_of (C.read m.words) (planning_insert m.spans k)
-      unfolding entry need planning_insert planning_kept kept_of
+      unfolding entry need planning_insert inserting planning_kept kept_of
       entry_planning = rw long (by_bool (fitting m.spans)
           (λ f. rw f (pass_kept (spot_of (C.read m.words)) (keeping k) _ _ (λ r e. refl) (by_bool (full_damage m.spans)
           (λ h. rw h)

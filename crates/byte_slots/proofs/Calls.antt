@@ -1,10 +1,10 @@
 -- What the calls of byte maps and byte sets tell and leave, by what the probing or the plan found: one law a call.
 use Rattle.std.proofs.Common.{ℕ, List, ◌≡◌, refl, get_or, Result}
 use Rattle.model.specs.Calls.{stored_by, after_insert, removed_by, after_remove}
-use Rattle.answers.specs.Said.{got_said, spanned_said, contained_said, stored_said, joined_said, removed_said, dropped_said, entered_said}
+use Rattle.answers.specs.Said.{got_said, spanned_said, stored_said, joined_said, removed_said, dropped_said, entered_said}
 use Rattle.kinds.specs.Columns.{values, nothing}
 use Rattle.kinds.specs.Told.{told}
-use Rattle.kinds.specs.Calls.{get_of, contains_of, remove_of, dropped_of, entry_of}
+use Rattle.kinds.specs.Calls.{get_of, remove_of, dropped_of, entry_of}
 use Rattle.kinds.proofs.Bridge.{seen_of}
 use Rattle.byte_slots.specs.Memory.{Spans, ByteMemory, used_of, offset_of, length_of}
 use Rattle.byte_slots.specs.Kinds.{maps, sets, insert_of, set_insert_of, set_get_of, as_set}
@@ -44,10 +44,6 @@ module _ (s : Spans) (k : List ℕ) where
     pub set_get_says : spanned_said (offset_of s) (length_of s) (seen_of {W = Unit {0}} (λ i. tt) x) ≡ set_get_of (as_set s) k
     unfolding set_get_of
     set_get_says = rw (get_probing nothing (as_set s) k refl, ← p, q)
-
-    pub contains_says : contained_said (seen_of {W = Unit {0}} (λ i. tt) x) ≡ contains_of sets (as_set s) k
-    unfolding contains_of
-    contains_says = rw (get_probing nothing (as_set s) k refl, ← p, q)
 
   pub set_remove_says : {r : Result RemovePlan Refusal} → r ≡ planning_remove s k → {x : Result RemovePlan Refusal} → r ≡ x → told (dropped_said (lost_of {W = Unit {0}} (λ i. tt) x)) (removed_by sets (as_set s) (lost_of (λ i. tt) x)) ≡ dropped_of sets (as_set s) k
   unfolding dropped_of after_remove

@@ -16,9 +16,10 @@ pub mod Lives
 pub mod MapSizes
 pub mod Planning
 pub mod Plans
+pub mod Lookups
 pub mod Seeking
 pub mod Sets
 pub mod Sizes
 pub mod Surveys
 pub mod Keys
-pub mod Steps
+pub mod Views

@@ -1,5 +1,5 @@
 -- The test of a byte map's sizes, and what right sizes say.
-use Rattle.std.proofs.Common.{Bool, true, false, ◌≡◌, sym, ◌∙◌, eqb-true, ne_eqb, eqb, length}
+use Rattle.std.proofs.Common.{Bool, true, false, ◌≡◌, refl, sym, ◌∙◌, eqb-true, ne_eqb, eqb, length}
 use Rattle.model.proofs.Cases.{both}
 use Rattle.kinds.specs.Calls.{sized_of}
 use Rattle.kinds.specs.Columns.{values}
@@ -26,3 +26,8 @@ module _ (m : ByteMemory values) where
         let (f, l) = both (fitting m.spans) (eqb (length m.spans.marks) (length m.words)) (sym p ∙ q) in
         let z = fitting_says m.spans f in
         (z.offsets, z.lengths, sym (eqb-true (length m.spans.marks) (length m.words) l))
+
+-- a map of right sizes has as many values as marks
+pub map_long : (m : ByteMemory values) → maps.sized m ≡ true → length m.words ≡ length m.spans.marks
+unfolding sized_of
+map_long m q = (same_long m {b = maps.sized m} refl q).2

@@ -8,7 +8,7 @@ use Rattle.kinds.specs.Columns.{values}
 use Rattle.byte_slots.specs.Memory.{ByteMemory, fitting, full_damage, used_of, keeping}
 use Rattle.byte_slots.specs.Kinds.{maps}
 use Rattle.byte_slots.specs.Probing.{path_of}
-use Rattle.byte_slots.specs.Planning.{insert_plan_by, room_for, planning_kept, planning_insert, planning_map_insert, planning_remove, planning_map_remove}
+use Rattle.byte_slots.specs.Planning.{insert_plan_by, room_for, planning_kept, planning_insert, planning_map_insert, planning_remove, planning_map_remove, inserting}
 use Rattle.byte_slots.proofs.Bridge.{spot_of, lost_of, short_refused, path_inside, remove_planning, entry_planning}
 use Rattle.byte_slots.proofs.Plans.{kept_plan_law}
 use Rattle.byte_slots.proofs.Seeking.{by_long, long_only}
@@ -48,7 +48,7 @@ module _ (m : ByteMemory values) (k : List ℕ) where
 
   -- a found slot is one of the table's
   plan_insert_inside : {i e : ℕ} → planning_insert m.spans k ≡ Ok (Hit i e) → i < length m.spans.marks
-  unfolding planning_insert planning_kept
+  unfolding planning_insert inserting planning_kept
   plan_insert_inside q = by_bool (fitting m.spans)
       (λ f.
       let (a, x) = kept_plan_law (keeping k) (rw f at q) (λ r z. clash cc) in

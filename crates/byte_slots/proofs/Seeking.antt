@@ -1,19 +1,16 @@
 -- What the probing of a byte map says, by the test of its values.
-use Rattle.std.proofs.Common.{ℕ, ◌<◌, true, false, List, ◌≡◌, ◌∙◌, arith, eqb-true, eqb, length, Result, Ok, Err}
+use Rattle.std.proofs.Common.{ℕ, true, false, List, ◌≡◌, ◌∙◌, eqb-true, eqb, length, Err}
 use Rattle.model.specs.Calls.{no, pass, seen_by, get}
 use Rattle.model.specs.Store.{path}
-use Rattle.model.proofs.Cases.{by_bool, clash}
+use Rattle.model.proofs.Cases.{by_bool}
 use Rattle.answers.specs.declared.Refusal.TheVariants.{Sizes}
 use Rattle.kinds.specs.Columns.{values}
 use Rattle.kinds.proofs.Bridge.{seen_of}
 use Rattle.byte_slots.specs.Memory.{ByteMemory}
 use Rattle.byte_slots.specs.Kinds.{maps}
 use Rattle.byte_slots.specs.Probing.{probing}
-use Rattle.byte_slots.proofs.Bridge.{short_refused, probing_inside, get_probing}
+use Rattle.byte_slots.proofs.Bridge.{short_refused, get_probing}
 use Rattle.byte_slots.specs.Seeking.{where_long, probing_map}
-use Rattle.answers.specs.declared.Refusal.{Refusal}
-use Rattle.kinds.specs.declared.Probed.{Probed}
-use Rattle.kinds.specs.declared.Probed.TheVariants.{Hit}
 
 module _ (m : ByteMemory values) where
   -- an answer where the values are as many as the marks, and where they are not
@@ -36,10 +33,3 @@ module _ (m : ByteMemory values) where
     pub get_probed : get maps m k ≡ seen_of (values.read m.words) (probing_map m k)
     unfolding probing_map
     get_probed = by_long (probing m.spans k) (Err Sizes) (seen_of (values.read m.words)) (get maps m k) (get_probing values m k) get_short
-
-    -- a slot that the probing answers is one of the table's
-    pub map_probe_inside : {r : Result Probed Refusal} {i e : ℕ} → r ≡ probing_map m k → r ≡ Ok (Hit i e) → i < length m.words
-    unfolding probing_map
-    map_probe_inside p q =
-        let (x, l) = long_only (probing m.spans k) (Err Sizes) p (λ z. clash (cc)) in
-        omega (arith, (probing_inside values m k x q).0)

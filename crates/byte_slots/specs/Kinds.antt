@@ -9,6 +9,13 @@ use Rattle.kinds.specs.Columns.{values, nothing}
 use Rattle.kinds.specs.Told.{ToldAndLeft, told}
 use Rattle.byte_slots.specs.Memory.{Spans, ByteMemory, byte_store, used_of, memory, offset_of, length_of}
 
+-- The lent arrays of a byte set, and of a byte map.
+abbrev pub SetMemory : Type 0
+SetMemory = ByteMemory nothing
+
+abbrev pub MapMemory : Type 0
+MapMemory = ByteMemory values
+
 -- A byte map as a store, and its lent lists.
 abbrev pub maps : Store (List ℕ) ℕ
 maps = byte_store values
@@ -22,6 +29,10 @@ sets = byte_store nothing
 
 abbrev pub set_memory : List ℕ → List ℕ → List ℕ → List ℕ → ByteMemory nothing
 set_memory marks offsets lengths arena = memory nothing marks offsets lengths arena tt
+
+-- The map of the keys' set with these values.
+abbrev pub map_of : SetMemory → List ℕ → MapMemory
+map_of m vs = record { spans = m.spans; words = vs }
 
 -- The lists of the keys as those of a set.
 abbrev pub as_set : Spans → ByteMemory nothing

@@ -12,4 +12,3 @@ pub mod Probing
 pub mod Seeking
 pub mod Scanning
 pub mod Surveying
-pub mod Steps

@@ -34,9 +34,13 @@ unfoldable pub kept_plan : Result (Unit {0}) Refusal → Result InsertPlan Refus
 kept_plan (Ok tt) p = p
 kept_plan (Err x) p = Err x
 
--- The plan of a call that stores a key: refusal 1, the key's own, then the rest.
+-- The plan of a call that stores a key, where the sizes are right: the key's own refusal, then the rest.
+unfoldable pub inserting : Spans → List ℕ → Result InsertPlan Refusal
+inserting s k = kept_plan (keeping k) (planning_kept s k)
+
+-- The whole plan: refusal 1 first.
 unfoldable pub planning_insert : Spans → List ℕ → Result InsertPlan Refusal
-planning_insert s k = cond (fitting s) (kept_plan (keeping k) (planning_kept s k)) (Err refusal.Sizes)
+planning_insert s k = cond (fitting s) (inserting s k) (Err refusal.Sizes)
 
 -- What remove makes of its path, where u bytes are used.
 unfoldable pub remove_plan_by : ℕ → Result Probed Refusal → Result RemovePlan Refusal
@@ -45,14 +49,16 @@ remove_plan_by u (Ok (Free i e)) = Ok (Absent e)
 remove_plan_by u (Ok (Full e)) = Ok (Absent e)
 remove_plan_by u (Err x) = Err x
 
--- The plan of remove: refusals 1, 2 and 5, then what its path says.
-unfoldable pub planning_remove : Spans → List ℕ → Result RemovePlan Refusal
-planning_remove s k =
-    cond (fitting s)
-    (cond (eqb (asked_of k) 0)
+-- The plan of remove, where the sizes are right: refusals 2 and 5, then what its path says.
+unfoldable pub removing : Spans → List ℕ → Result RemovePlan Refusal
+removing s k =
+    cond (eqb (asked_of k) 0)
     (cond (full_damage s) (Err refusal.Damaged) (remove_plan_by (used_of s) (path_of s k)))
-    (Err refusal.LongKey))
-    (Err refusal.Sizes)
+    (Err refusal.LongKey)
+
+-- The whole plan: refusal 1 first.
+unfoldable pub planning_remove : Spans → List ℕ → Result RemovePlan Refusal
+planning_remove s k = cond (fitting s) (removing s k) (Err refusal.Sizes)
 
 -- The plans in a map: refusal 1 where there are not as many values as marks.
 unfoldable pub planning_map_insert : ByteMemory values → List ℕ → Result InsertPlan Refusal

@@ -1,10 +1,10 @@
--- What the scan of all slots finds, and what stands first in a stretch of slots.
+-- What the scan of all slots finds.
 use Rattle.std.specs.Prelude.{ℕ, zero, suc, ◌+◌, List, length, get_or}
 use Rattle.kinds.specs.Marks.{counted}
-use Rattle.kinds.specs.Scanning.{scanning_of, nexting_of}
+use Rattle.kinds.specs.Scanning.{scanning_of}
 use Rattle.byte_slots.specs.Memory.{Spans}
 use Rattle.byte_slots.specs.Marks.{mark_of}
-use Rattle.std.specs.Prelude.{Result, Option}
+use Rattle.std.specs.Prelude.{Result}
 use Rattle.answers.specs.declared.Refusal.{Refusal}
 
 -- The scan of all slots: damage, else the number of live slots.
@@ -15,7 +15,3 @@ scanning s = scanning_of (mark_of s) (length s.marks)
 unfoldable pub live_marks : List ℕ → ℕ → ℕ
 live_marks marks zero = 0
 live_marks marks (suc n) = live_marks marks n + counted (get_or marks n 0)
-
--- The first live or damaged slot from w on, before e.
-unfoldable pub nexting : Spans → ℕ → ℕ → Result (Option ℕ) Refusal
-nexting s w e = nexting_of (mark_of s) w e

@@ -1,26 +1,31 @@
 // Byte tables: sizes, the words of a slot, the probing loop, the scan, the survey, and the plans of insert and remove; then the sizes, the probing and the plans of a map, whose values are as many as its marks.
 #![tactic(auto)]
 
-ghost use Rattle.std.specs.Prelude.{◌≡◌, true, ◌+◌, ◌-◌, ◌≤◌, ◌<◌, eqb, leb, length, get_or, set, take, drop};
+ghost use Rattle.std.specs.Prelude.{◌≡◌, true, ◌+◌, ◌-◌, ◌^◌, ◌≤◌, ◌<◌, ℕ, List, eqb, leb, length, get_or, set, take, drop};
 ghost use Rattle.lists.specs.Bytes.{le};
 ghost use Rattle.digest.specs.Home.{key_limit};
 ghost use Rattle.byte_slots.specs.Keys.{same_bytes};
 ghost use Rattle.kinds.specs.Calls.{sized_of};
 ghost use Rattle.kinds.specs.Marks.{mark_read};
-ghost use Rattle.byte_slots.specs.Kinds.{maps};
+ghost use Rattle.byte_slots.specs.Kinds.{MapMemory, SetMemory, maps, sets, set_memory, map_of};
+ghost use Rattle.model.specs.Slots.{live};
+ghost use Rattle.tables.specs.Handing.{span_parts, span_pair_parts};
+ghost use Rattle.tables.specs.Reading.{lent_of, mark_in};
+ghost use Rattle.kinds.specs.Probing.{look_at};
 ghost use Rattle.byte_slots.specs.Maps.{before};
-ghost use Rattle.byte_slots.specs.Memory.{part, spans_now, spans_before, fitting, asked_of, keeping};
+ghost use Rattle.byte_slots.specs.Memory.{part, offset_of, length_of, spans_now, spans_before, fitting, asked_of, keeping};
 ghost use Rattle.byte_slots.specs.Marks.{mark_of};
 ghost use Rattle.byte_slots.specs.Probing.{sight_at, path_from, probing};
-ghost use Rattle.byte_slots.specs.Planning.{insert_plan_by, planning_kept, planning_insert, planning_map_insert, remove_plan_by, planning_remove, planning_map_remove};
-ghost use Rattle.byte_slots.specs.Scanning.{scanning, live_marks, nexting};
+ghost use Rattle.byte_slots.specs.Planning.{insert_plan_by, inserting, removing, planning_kept, planning_insert, planning_map_insert, remove_plan_by, planning_remove, planning_map_remove};
+ghost use Rattle.byte_slots.specs.Scanning.{live_marks};
 ghost use Rattle.byte_slots.specs.Seeking.{probing_map};
 ghost use Rattle.byte_slots.specs.Surveying.{higher_end, surveying};
-ghost use Rattle.byte_slots.specs.Steps.{set_ahead, map_ahead};
 
-use answers::Refusal;
+use answers::{Refusal, Span};
 use digest::{KEY_LIMIT, slot_of_key, slots_fit};
 use kinds::{Ahead, Mark, Probed, Sight, ahead_by, ended_at, first_free, next_slot, way};
+use std::marker::Model;
+use tables::Table;
 
 // The most bytes that an arena has.
 pub const ARENA_LIMIT: usize = 32768;
@@ -37,6 +42,300 @@ pub enum InsertPlan {
 pub enum RemovePlan {
     Hit(usize, usize, usize),
     Absent(usize),
+}
+
+// The lent arrays of a byte set, of right sizes: for each slot a mark, and the offset and the length of its key in the arena.
+#[derive(Drop)]
+pub struct ByteSet<'a> {
+    marks: &'a [u8],
+    offsets: &'a [u16],
+    lengths: &'a [u8],
+    arena: &'a [u8],
+}
+
+// Calls see the arrays as the theory's memory.
+impl<'a> Model for ByteSet<'a> {
+    ghost Value = { SetMemory };
+
+    ghost view = { λ t. set_memory t.marks.now t.offsets.now t.lengths.now t.arena.now };
+
+    ghost invariant = { λ t. fitting (spans_now t.marks.now t.offsets.now t.lengths.now t.arena.now) ≡ true };
+}
+
+impl<'a> ByteSet<'a> {
+    // The set of these arrays, or refusal 1.
+    #[tactic(auto, unfolding(crate::specs::Memory::fitting, tables::specs::Reading::lent_of))]
+    pub fn lent(
+        marks: &'a [u8],
+        offsets: &'a [u16],
+        lengths: &'a [u8],
+        arena: &'a [u8],
+    ) -> Result<ByteSet<'a>, Refusal>
+        ensures { result ≡ lent_of sets (set_memory marks.now offsets.now lengths.now arena.now) }
+    {
+        if slots_fit(marks.len() as u64)
+            && marks.len() == offsets.len()
+            && marks.len() == lengths.len()
+            && arena.len() <= ARENA_LIMIT
+        {
+            Ok(ByteSet {
+                marks,
+                offsets,
+                lengths,
+                arena,
+            })
+        } else {
+            Err(Refusal::Sizes)
+        }
+    }
+
+    // The key's place in the arena, as a slot names it.
+    #[tactic(auto, using(crate::proofs::Sizes::fitting_says))]
+    pub fn span(&self, slot: usize) -> Span
+        requires { slot < length self.now.spans.marks }
+        ensures { (result.offset ≡ get_or self.now.spans.offsets slot 0) × (result.length ≡ get_or self.now.spans.lengths slot 0) × (result.length ≤ key_limit) × (result.offset < 2 ^ 16) }
+    {
+        let offsets = self.offsets;
+        let lengths = self.lengths;
+        Span {
+            offset: offsets[slot] as usize,
+            length: lengths[slot] as usize,
+        }
+    }
+}
+
+impl<'a> ByteSet<'a> {
+    // How many slots are not live, where none is damaged.
+    #[tactic(auto, using(crate::proofs::Lives::live_marks_within))]
+    pub fn free_slots(&self) -> usize
+        ensures { result ≡ length self.now.spans.marks - live_marks self.now.spans.marks (length self.now.spans.marks) }
+    {
+        self.marks.len() - live_marks(self.marks)
+    }
+
+    // The survey of all slots: full damage, else `used`. No live span ends past the arena where none ends beyond `used`, and that is no more.
+    pub fn survey(&self) -> Result<usize, Refusal>
+        ensures { result ≡ surveying self.now.spans }
+    {
+        let mut used = 0;
+        let mut top = 0;
+        for slot in 0..self.marks.len() {
+            if let Mark::Live = Mark::try_from(self.marks[slot])? {
+                let span = self.span(slot);
+                used += span.length;
+                top = higher_end(span.offset + span.length, top);
+            }
+        }
+        if self.arena.len() < used || used < top {
+            return Err(Refusal::Damaged);
+        }
+        Ok(used)
+    }
+
+    // The plan of a call that stores a key: its tests in order, then what its path says.
+    #[tactic(auto, unfolding(crate::specs::Planning::inserting, crate::specs::Planning::kept_plan, crate::specs::Planning::planning_kept, crate::specs::Planning::room_for, crate::specs::Surveying::surveying), using(crate::proofs::Sets::probing_set, crate::proofs::Plans::surveyed_within))]
+    pub fn plan_insert(&self, key: &[u8]) -> Result<InsertPlan, Refusal>
+        ensures { result ≡ inserting self.now.spans key.now }
+    {
+        may_keep(key)?;
+        let used = self.survey()?;
+        insert_plan_by(tables::probe(self, key), used, self.arena.len(), key.len())
+    }
+
+    // The plan of remove: its tests in order, then what its path says.
+    #[tactic(auto, unfolding(crate::specs::Planning::removing, crate::specs::Surveying::surveying), using(crate::proofs::Sets::probing_set))]
+    pub fn plan_remove(&self, key: &[u8]) -> Result<RemovePlan, Refusal>
+        ensures { result ≡ removing self.now.spans key.now }
+    {
+        if !may_ask(key) {
+            return Err(Refusal::LongKey);
+        }
+        let used = self.survey()?;
+        remove_plan_by(tables::probe(self, key), used)
+    }
+}
+
+impl<'a, 'k> Table<&'k [u8]> for ByteSet<'a> {
+    ghost Key = { List ℕ };
+
+    ghost Word = { Unit {0} };
+
+    ghost store = { sets };
+
+    ghost state = { λ m. m };
+
+    ghost key_of = { λ k. k.now };
+
+    type Item = Span;
+
+    ghost tells = { λ m k v i. record { key = 0; value = 0; offset = offset_of m.spans i; length = length_of m.spans i } };
+
+    fn size(&self) -> usize
+        ensures slots { result ≡ sets.size self.now }
+        ensures sized { sets.sized self.now ≡ true }
+    {
+        self.marks.len()
+    }
+
+    #[tactic(auto, unfolding(tables::specs::Reading::mark_in, kinds::specs::Marks::mark_read, crate::specs::Memory::slots_of, crate::specs::Memory::spanned, crate::specs::Memory::end_at))]
+    fn mark(&self, slot: usize) -> Result<Mark, Refusal>
+        requires { slot < sets.size self.now }
+        ensures { result ≡ mark_in (sets.slots self.now slot) }
+    {
+        match Mark::try_from(self.marks[slot])? {
+            Mark::Live => {
+                let span = self.span(slot);
+                if self.arena.len() < span.offset + span.length {
+                    return Err(Refusal::Damaged);
+                }
+                Ok(Mark::Live)
+            }
+            other => Ok(other),
+        }
+    }
+
+    #[tactic(auto, unfolding(kinds::specs::Probing::look_at, kinds::specs::Marks::mark_read, crate::specs::Memory::slots_of, crate::specs::Memory::spanned, crate::specs::Memory::end_at, crate::specs::Memory::key_at, crate::specs::Memory::part))]
+    fn look(&self, slot: usize, key: &'k [u8]) -> Result<Sight, Refusal>
+        requires { slot < sets.size self.now }
+        ensures { result ≡ look_at sets.keys key.now (sets.slots self.now slot) }
+    {
+        match Mark::try_from(self.marks[slot])? {
+            Mark::Never => Ok(Sight::Never),
+            Mark::Freed => Ok(Sight::Freed),
+            Mark::Live => {
+                let span = self.span(slot);
+                let end = span.offset + span.length;
+                if self.arena.len() < end {
+                    return Err(Refusal::Damaged);
+                }
+                if same_bytes(&self.arena[span.offset..end], key) {
+                    Ok(Sight::Same)
+                } else {
+                    Ok(Sight::Other)
+                }
+            }
+        }
+    }
+
+    fn item(&self, slot: usize) -> Span
+        requires { slot < sets.size self.now }
+        ensures { (k : List ℕ) (v : Unit {0}) → sets.slots self.now slot ≡ live k v → span_parts result ≡ record { key = 0; value = 0; offset = offset_of self.now.spans slot; length = length_of self.now.spans slot } }
+    {
+        self.span(slot)
+    }
+
+    #[tactic(auto, using(crate::proofs::Sizes::fitting_says, digest::proofs::Bounds::home_below))]
+    fn home(&self, key: &'k [u8]) -> usize
+        ensures { (result ≡ sets.home self.now key.now) × (result < sets.size self.now) }
+    {
+        slot_of_key(key, self.marks.len() as u64, 0) as usize
+    }
+}
+
+// The lent arrays of a byte map, of right sizes: the set of its keys, and a value for each slot.
+#[derive(Drop)]
+pub struct ByteMap<'a> {
+    set: ByteSet<'a>,
+    words: &'a [u64],
+}
+
+impl<'a> Model for ByteMap<'a> {
+    ghost Value = { MapMemory };
+
+    ghost view = { λ t. map_of t.set t.words.now };
+
+    ghost invariant = { λ t. maps.sized (map_of t.set t.words.now) ≡ true };
+}
+
+impl<'a> ByteMap<'a> {
+    // The map of these arrays, or refusal 1.
+    #[tactic(auto, unfolding(tables::specs::Reading::lent_of))]
+    pub fn lent(
+        marks: &'a [u8],
+        offsets: &'a [u16],
+        lengths: &'a [u8],
+        values: &'a [u64],
+        arena: &'a [u8],
+    ) -> Result<ByteMap<'a>, Refusal>
+        ensures { result ≡ lent_of maps (before marks.now offsets.now lengths.now values.now arena.now) }
+    {
+        let set = ByteSet::lent(marks, offsets, lengths, arena)?;
+        if marks.len() == values.len() {
+            Ok(ByteMap { set, words: values })
+        } else {
+            Err(Refusal::Sizes)
+        }
+    }
+
+    // The set of its keys.
+    pub fn keys(&self) -> &ByteSet<'a>
+        ensures { result.now.spans ≡ self.now.spans }
+    {
+        &self.set
+    }
+
+    // The value in a slot.
+    #[tactic(auto, using(crate::proofs::MapSizes::map_long))]
+    pub fn value(&self, slot: usize) -> u64
+        requires { slot < length self.now.spans.marks }
+        ensures { result ≡ get_or self.now.words slot 0 }
+    {
+        let words = self.words;
+        words[slot]
+    }
+}
+
+impl<'a, 'k> Table<&'k [u8]> for ByteMap<'a> {
+    ghost Key = { List ℕ };
+
+    ghost Word = { ℕ };
+
+    ghost store = { maps };
+
+    ghost state = { λ m. m };
+
+    ghost key_of = { λ k. k.now };
+
+    type Item = (Span, u64);
+
+    ghost tells = { λ m k v i. record { key = 0; value = v; offset = offset_of m.spans i; length = length_of m.spans i } };
+
+    fn size(&self) -> usize
+        ensures slots { result ≡ maps.size self.now }
+        ensures sized { maps.sized self.now ≡ true }
+    {
+        self.set.size()
+    }
+
+    #[tactic(auto, using(crate::proofs::Beside::mark_slots))]
+    fn mark(&self, slot: usize) -> Result<Mark, Refusal>
+        requires { slot < maps.size self.now }
+        ensures { result ≡ mark_in (maps.slots self.now slot) }
+    {
+        self.set.mark(slot)
+    }
+
+    #[tactic(auto, using(crate::proofs::Beside::look_slots))]
+    fn look(&self, slot: usize, key: &'k [u8]) -> Result<Sight, Refusal>
+        requires { slot < maps.size self.now }
+        ensures { result ≡ look_at maps.keys key.now (maps.slots self.now slot) }
+    {
+        self.set.look(slot, key)
+    }
+
+    #[tactic(auto, using(crate::proofs::Beside::word_held))]
+    fn item(&self, slot: usize) -> (Span, u64)
+        requires { slot < maps.size self.now }
+        ensures { (k : List ℕ) (v : ℕ) → maps.slots self.now slot ≡ live k v → span_pair_parts result ≡ record { key = 0; value = v; offset = offset_of self.now.spans slot; length = length_of self.now.spans slot } }
+    {
+        (self.set.span(slot), self.value(slot))
+    }
+
+    fn home(&self, key: &'k [u8]) -> usize
+        ensures { (result ≡ maps.home self.now key.now) × (result < maps.size self.now) }
+    {
+        self.set.home(key)
+    }
 }
 
 // The offset of slot i, 0 beyond the array.
@@ -263,45 +562,6 @@ pub fn probe(
     walk_path(marks, offsets, lengths, arena, key, home)
 }
 
-// The scan of all slots: damage, else the number of live slots.
-pub fn scan(marks: &[u8], offsets: &[u16], lengths: &[u8], arena: &[u8]) -> Result<usize, Refusal>
-    requires { (length offsets.now ≡ length marks.now) × (length lengths.now ≡ length marks.now) }
-    ensures { result ≡ scanning (spans_before marks.now offsets.now lengths.now arena.now) }
-{
-    let mut live = 0;
-    let mut i = 0;
-    while i < marks.len() {
-        match mark_at(marks, offsets, lengths, arena, i)? {
-            Mark::Live => live += 1,
-            Mark::Never | Mark::Freed => {}
-        }
-        i += 1;
-    }
-    Ok(live)
-}
-
-// The first live or damaged slot from `at` on, before `end`.
-pub fn next_live(
-    marks: &[u8],
-    offsets: &[u16],
-    lengths: &[u8],
-    arena: &[u8],
-    at: usize,
-    end: usize,
-) -> Result<Option<usize>, Refusal>
-    requires { (end ≤ length marks.now) × (length offsets.now ≡ length marks.now) × (length lengths.now ≡ length marks.now) }
-    ensures { result ≡ nexting (spans_before marks.now offsets.now lengths.now arena.now) at end }
-{
-    let mut i = at;
-    while i < end {
-        match mark_at(marks, offsets, lengths, arena, i)? {
-            Mark::Live => return Ok(Some(i)),
-            Mark::Never | Mark::Freed => i += 1,
-        }
-    }
-    Ok(None)
-}
-
 // How many marks are 1: the live slots, where none is damaged.
 pub fn live_marks(marks: &[u8]) -> usize
     ensures { result ≡ live_marks marks.now (length marks.now) }
@@ -366,42 +626,6 @@ fn insert_plan_by(
     }
 }
 
-// The plan of a call that stores a key that may be stored, in a table of right sizes: damage, then what its path says.
-#[tactic(auto, unfolding(crate::specs::Planning::planning_kept, crate::specs::Planning::room_for, crate::specs::Probing::path_of, crate::specs::Surveying::surveying))]
-fn plan_kept(
-    marks: &[u8],
-    offsets: &[u16],
-    lengths: &[u8],
-    arena: &[u8],
-    key: &[u8],
-) -> Result<InsertPlan, Refusal>
-    requires { fitting (spans_now marks.now offsets.now lengths.now arena.now) ≡ true }
-    ensures { result ≡ planning_kept (spans_before marks.now offsets.now lengths.now arena.now) key.now }
-{
-    let used = survey(marks, offsets, lengths, arena)?;
-    let home = slot_of_key(key, marks.len() as u64, 0) as usize;
-    let found = walk_path(marks, offsets, lengths, arena, key, home);
-    insert_plan_by(found, used, arena.len(), key.len())
-}
-
-// The plan of a call that stores a key: its tests in order, then what its path says.
-#[tactic(auto, unfolding(crate::specs::Planning::planning_insert, crate::specs::Planning::kept_plan))]
-pub fn plan_insert(
-    marks: &[u8],
-    offsets: &[u16],
-    lengths: &[u8],
-    arena: &[u8],
-    key: &[u8],
-) -> Result<InsertPlan, Refusal>
-    ensures { result ≡ planning_insert (spans_before marks.now offsets.now lengths.now arena.now) key.now }
-{
-    if !fits(marks, offsets, lengths, arena) {
-        return Err(Refusal::Sizes);
-    }
-    may_keep(key)?;
-    plan_kept(marks, offsets, lengths, arena, key)
-}
-
 // What remove makes of its path.
 #[tactic(auto, unfolding(crate::specs::Planning::remove_plan_by))]
 fn remove_plan_by(found: Result<Probed, Refusal>, used: usize) -> Result<RemovePlan, Refusal>
@@ -413,127 +637,10 @@ fn remove_plan_by(found: Result<Probed, Refusal>, used: usize) -> Result<RemoveP
     }
 }
 
-// The plan of remove: its tests in order, then what its path says.
-#[tactic(auto, unfolding(crate::specs::Planning::planning_remove, crate::specs::Probing::path_of, crate::specs::Surveying::surveying))]
-pub fn plan_remove(
-    marks: &[u8],
-    offsets: &[u16],
-    lengths: &[u8],
-    arena: &[u8],
-    key: &[u8],
-) -> Result<RemovePlan, Refusal>
-    ensures { result ≡ planning_remove (spans_before marks.now offsets.now lengths.now arena.now) key.now }
-{
-    if !fits(marks, offsets, lengths, arena) {
-        return Err(Refusal::Sizes);
-    }
-    if !may_ask(key) {
-        return Err(Refusal::LongKey);
-    }
-    let used = survey(marks, offsets, lengths, arena)?;
-    let home = slot_of_key(key, marks.len() as u64, 0) as usize;
-    let found = walk_path(marks, offsets, lengths, arena, key, home);
-    remove_plan_by(found, used)
-}
-
 // Whether the lent arrays may be a map: those of the keys, and as many values.
 #[tactic(auto, unfolding(kinds::specs::Calls::sized_of))]
 pub fn map_fits(marks: &[u8], offsets: &[u16], lengths: &[u8], values: &[u64], arena: &[u8]) -> bool
     ensures { result ≡ sized_of maps (before marks.now offsets.now lengths.now values.now arena.now) }
 {
     fits(marks, offsets, lengths, arena) && marks.len() == values.len()
-}
-
-// The probing of a key in a map: refusal 1, then what the probing answers.
-#[tactic(auto, unfolding(crate::specs::Seeking::where_long, crate::specs::Seeking::probing_map))]
-pub fn map_probe(
-    marks: &[u8],
-    offsets: &[u16],
-    lengths: &[u8],
-    values: &[u64],
-    arena: &[u8],
-    key: &[u8],
-) -> Result<Probed, Refusal>
-    ensures { result ≡ probing_map (before marks.now offsets.now lengths.now values.now arena.now) key.now }
-{
-    if marks.len() != values.len() {
-        return Err(Refusal::Sizes);
-    }
-    probe(marks, offsets, lengths, arena, key)
-}
-
-// The plan of insert in a map: refusal 1, then what the plan answers.
-#[tactic(auto, unfolding(crate::specs::Seeking::where_long, crate::specs::Planning::planning_map_insert))]
-pub fn map_plan_insert(
-    marks: &[u8],
-    offsets: &[u16],
-    lengths: &[u8],
-    values: &[u64],
-    arena: &[u8],
-    key: &[u8],
-) -> Result<InsertPlan, Refusal>
-    ensures { result ≡ planning_map_insert (before marks.now offsets.now lengths.now values.now arena.now) key.now }
-{
-    if marks.len() != values.len() {
-        return Err(Refusal::Sizes);
-    }
-    plan_insert(marks, offsets, lengths, arena, key)
-}
-
-// The plan of remove in a map: refusal 1, then what the plan answers.
-#[tactic(auto, unfolding(crate::specs::Seeking::where_long, crate::specs::Planning::planning_map_remove))]
-pub fn map_plan_remove(
-    marks: &[u8],
-    offsets: &[u16],
-    lengths: &[u8],
-    values: &[u64],
-    arena: &[u8],
-    key: &[u8],
-) -> Result<RemovePlan, Refusal>
-    ensures { result ≡ planning_map_remove (before marks.now offsets.now lengths.now values.now arena.now) key.now }
-{
-    if marks.len() != values.len() {
-        return Err(Refusal::Sizes);
-    }
-    plan_remove(marks, offsets, lengths, arena, key)
-}
-
-// What a step of a walk of a set comes upon: its tests in order, then the first live slot within its reach.
-#[tactic(auto, unfolding(crate::specs::Steps::ahead_in, crate::specs::Scanning::nexting, kinds::specs::Stepping::ahead_of, kinds::specs::Stepping::ahead_on))]
-pub fn ahead(
-    marks: &[u8],
-    offsets: &[u16],
-    lengths: &[u8],
-    arena: &[u8],
-    at: usize,
-    budget: u64,
-) -> Result<Ahead, Refusal>
-    ensures { result ≡ set_ahead (spans_before marks.now offsets.now lengths.now arena.now) at budget }
-{
-    if !fits(marks, offsets, lengths, arena) {
-        return Err(Refusal::Sizes);
-    }
-    match way(marks.len(), at, budget)? {
-        Some(end) => ahead_by(next_live(marks, offsets, lengths, arena, at, end), end),
-        None => Ok(Ahead::Done),
-    }
-}
-
-// The same of a map: refusal 1 where the values do not fit, else by the arrays of the keys.
-#[tactic(auto, unfolding(crate::specs::Steps::ahead_in, kinds::specs::Stepping::ahead_of))]
-pub fn map_ahead(
-    marks: &[u8],
-    offsets: &[u16],
-    lengths: &[u8],
-    values: &[u64],
-    arena: &[u8],
-    at: usize,
-    budget: u64,
-) -> Result<Ahead, Refusal>
-    ensures { result ≡ map_ahead (spans_before marks.now offsets.now lengths.now arena.now) values.now at budget }
-{
-    if marks.len() != values.len() {
-        return Err(Refusal::Sizes);
-    }
-    ahead(marks, offsets, lengths, arena, at, budget)
 }

@@ -9,16 +9,15 @@ ghost use Rattle.kinds.specs.Calls.{make_of, remove_of, copy_of};
 ghost use Rattle.int_slots.specs.Maps.{maps, before, after};
 
 use answers::{Inserted, Lookup, Refusal};
+use int_slots::IntMap;
 use kinds::{Mark, Probed};
+use tables::Table;
 
 // Makes an empty map of the lent arrays.
-#[tactic(auto, using(kinds::proofs::Sizing::make_unsized, int_slots::proofs::MapSizes::unfit))]
 pub fn make(marks: &mut [u8], keys: &mut [u64], values: &mut [u64]) -> Result<(), Refusal>
     ensures { told (outcome_numbers result) (after marks.new keys.new values.new) ≡ make_of maps (before marks.old keys.old values.old) }
 {
-    if !int_slots::map_fits(marks, keys, values) {
-        return Err(Refusal::Sizes);
-    }
+    IntMap::lent(marks, keys, values)?;
     marks.fill(0);
     keys.fill(0);
     values.fill(0);
@@ -33,7 +32,6 @@ pub fn clear(marks: &mut [u8], keys: &mut [u64], values: &mut [u64]) -> Result<(
 }
 
 // Gives a key its value: in its slot, or in the first free slot of its path.
-#[tactic(auto, using(int_slots::proofs::Calls::insert_full, int_slots::proofs::Calls::insert_refused))]
 pub fn insert(
     marks: &mut [u8],
     keys: &mut [u64],
@@ -43,7 +41,7 @@ pub fn insert(
 ) -> Result<Inserted<u64>, Refusal>
     ensures { told (inserted_numbers result) (after marks.new keys.new values.new) ≡ insert_of (before marks.old keys.old values.old) key value }
 {
-    match int_slots::map_probe(marks, keys, values, key)? {
+    match tables::probe(&IntMap::lent(marks, keys, values)?, key)? {
         Probed::Hit(slot, examined) => {
             let old = values[slot];
             values[slot] = value;
@@ -60,7 +58,6 @@ pub fn insert(
 }
 
 // Takes a key out: its slot is freed, its words become 0.
-#[tactic(auto, using(int_slots::proofs::Calls::remove_gone, int_slots::proofs::Calls::remove_refused))]
 pub fn remove(
     marks: &mut [u8],
     keys: &mut [u64],
@@ -69,7 +66,7 @@ pub fn remove(
 ) -> Result<Lookup<u64>, Refusal>
     ensures { told (removed_numbers result) (after marks.new keys.new values.new) ≡ remove_of maps (before marks.old keys.old values.old) key }
 {
-    match int_slots::map_probe(marks, keys, values, key)? {
+    match tables::probe(&IntMap::lent(marks, keys, values)?, key)? {
         Probed::Hit(slot, examined) => {
             let old = values[slot];
             marks[slot] = Mark::Freed as u8;
@@ -82,7 +79,6 @@ pub fn remove(
 }
 
 // Makes a map equal to another of equal sizes, in every slot.
-#[tactic(auto, using(kinds::proofs::Copying::copy_unsized, kinds::proofs::Copying::copy_from_unsized, kinds::proofs::Copying::copy_slots, int_slots::proofs::MapSizes::fit, int_slots::proofs::MapSizes::unfit, crate::proofs::Laws::copy_done))]
 pub fn copy(
     to_marks: &mut [u8],
     to_keys: &mut [u64],
@@ -93,12 +89,9 @@ pub fn copy(
 ) -> Result<(), Refusal>
     ensures { told (outcome_numbers result) (after to_marks.new to_keys.new to_values.new) ≡ copy_of maps (before to_marks.old to_keys.old to_values.old) (before marks.now keys.now values.now) }
 {
-    if !int_slots::map_fits(to_marks, to_keys, to_values)
-        || !int_slots::map_fits(marks, keys, values)
-    {
-        return Err(Refusal::Sizes);
-    }
-    if to_marks.len() != marks.len() {
+    IntMap::lent(to_marks, to_keys, to_values)?;
+    let from = IntMap::lent(marks, keys, values)?;
+    if to_marks.len() != from.size() {
         return Err(Refusal::Sizes);
     }
     arrays::copy(to_marks, marks);

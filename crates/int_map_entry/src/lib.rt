@@ -11,6 +11,7 @@ ghost use Rattle.kinds.specs.Calls.{entry_of, or_insert_of, insert_entry_of};
 ghost use Rattle.int_slots.specs.Maps.{maps, before, after};
 
 use answers::{Case, Numbers, Refusal, case_numbers};
+use int_slots::IntMap;
 use kinds::Probed;
 
 // The handles stand in `int_map_occupied` and `int_map_vacant`, and are had here too.
@@ -26,18 +27,28 @@ pub enum Entered {
     Refused(Refusal),
 }
 
-// Where a key stands or would go; refused exactly as insert would be.
-pub fn entry(marks: &[u8], keys: &[u64], values: &[u64], key: u64) -> Entered
-    ensures { entered_numbers result ≡ entry_of maps (before marks.now keys.now values.now) key }
+// Where a key stands or would go in a map.
+fn entry_in(map: &IntMap, key: u64) -> Entered
+    ensures { entered_numbers result ≡ entry_of maps map.now key }
 {
-    match int_slots::map_probe(marks, keys, values, key) {
+    match tables::probe(map, key) {
         Ok(Probed::Hit(slot, examined)) => Entered::Occupied(
             Occupied { slot },
-            values[slot],
+            map.value(slot),
             examined,
         ),
         Ok(Probed::Free(slot, examined)) => Entered::Vacant(Vacant { slot }, examined),
         Ok(Probed::Full(_)) => Entered::Refused(Refusal::NoSlot),
+        Err(r) => Entered::Refused(r),
+    }
+}
+
+// Where a key stands or would go; refused exactly as insert would be.
+pub fn entry(marks: &[u8], keys: &[u64], values: &[u64], key: u64) -> Entered
+    ensures { entered_numbers result ≡ entry_of maps (before marks.now keys.now values.now) key }
+{
+    match IntMap::lent(marks, keys, values) {
+        Ok(map) => entry_in(&map, key),
         Err(r) => Entered::Refused(r),
     }
 }

@@ -2,17 +2,16 @@
 #![tactic(auto)]
 
 ghost use Rattle.std.specs.Prelude.{◌≡◌};
-ghost use Rattle.model.specs.Calls.{held_on};
-ghost use Rattle.kinds.specs.Marks.{cell};
 ghost use Rattle.int_slots.specs.Maps.{maps, before, after};
 ghost use Rattle.kinds.specs.Told.{told};
-ghost use Rattle.answers.specs.Said.{held_said};
 ghost use Rattle.int_map_occupied.specs.Numbers.{held_numbers, swapped_numbers, taken_numbers, taken_entry_numbers};
 ghost use Rattle.int_slots.specs.Kinds.{remove_entry_of};
 ghost use Rattle.kinds.specs.Calls.{held_of, set_of, taken_of};
 
 use answers::{Case, Numbers, Refusal, case_numbers};
-use kinds::Mark;
+use int_slots::IntMap;
+use kinds::{Mark, Sight};
+use tables::Table;
 
 // A handle of a slot that holds a key.
 #[derive(Clone, Copy, Debug, PartialEq, Eq)]
@@ -20,41 +19,17 @@ pub struct Occupied {
     pub slot: usize,
 }
 
-// Whether a slot with this mark, key and value is live and holds the key.
-#[tactic(auto, unfolding(crate::specs::Numbers::held_numbers, answers::specs::Said::held_said, model::specs::Calls::held_on, model::specs::Calls::need, kinds::specs::Marks::cell, kinds::specs::Marks::mark_read))]
-fn value_in(
-    mark: u8,
-    held: u64,
-    value: u64,
-    slot: usize,
-    key: u64,
-) -> Result<(u64, Occupied), Refusal>
-    ensures { held_numbers result ≡ held_said slot (held_on maps key (cell mark held value)) }
-{
-    match Mark::try_from(mark)? {
-        Mark::Live if held == key => Ok((value, Occupied { slot })),
-        _ => Err(Refusal::BadHandle),
-    }
-}
-
 // What an occupied handle of this slot holds for the key: the value, or a refusal.
-#[tactic(auto, using(crate::proofs::Values::value_slot, crate::proofs::Values::value_beyond, crate::proofs::Values::value_unfit))]
-fn value_of(
-    marks: &[u8],
-    keys: &[u64],
-    values: &[u64],
-    slot: usize,
-    key: u64,
-) -> Result<(u64, Occupied), Refusal>
-    ensures { held_numbers result ≡ held_of maps (before marks.now keys.now values.now) slot key }
+fn value_of(map: &IntMap, slot: usize, key: u64) -> Result<(u64, Occupied), Refusal>
+    ensures { held_numbers result ≡ held_of maps map.now slot key }
 {
-    if !int_slots::map_fits(marks, keys, values) {
-        return Err(Refusal::Sizes);
-    }
-    if marks.len() <= slot {
+    if map.size() <= slot {
         return Err(Refusal::BadHandle);
     }
-    value_in(marks[slot], keys[slot], values[slot], slot, key)
+    match map.look(slot, key)? {
+        Sight::Same => Ok((map.value(slot), Occupied { slot })),
+        _ => Err(Refusal::BadHandle),
+    }
 }
 
 impl Occupied {
@@ -68,11 +43,10 @@ impl Occupied {
     ) -> Result<(u64, Occupied), Refusal>
         ensures { held_numbers result ≡ held_of maps (before marks.now keys.now values.now) self.slot key }
     {
-        value_of(marks, keys, values, self.slot, key)
+        value_of(&IntMap::lent(marks, keys, values)?, self.slot, key)
     }
 
     // Gives the slot another value; the old one is answered.
-    #[tactic(auto, using(crate::proofs::Values::set_refused))]
     pub fn set(
         self,
         marks: &mut [u8],
@@ -84,13 +58,12 @@ impl Occupied {
         ensures { told (swapped_numbers result) (after marks.new keys.new values.new) ≡ set_of maps (before marks.old keys.old values.old) self.slot key value }
     {
         let slot = self.slot;
-        let (old, _) = value_of(marks, keys, values, slot, key)?;
+        let (old, _) = value_of(&IntMap::lent(marks, keys, values)?, slot, key)?;
         values[slot] = value;
         Ok((old, Occupied { slot }))
     }
 
     // Frees the slot; its value is answered.
-    #[tactic(auto, using(crate::proofs::Values::remove_refused))]
     pub fn remove(
         self,
         marks: &mut [u8],
@@ -101,7 +74,7 @@ impl Occupied {
         ensures { told (taken_numbers result) (after marks.new keys.new values.new) ≡ taken_of maps (before marks.old keys.old values.old) self.slot key }
     {
         let slot = self.slot;
-        let (value, _) = value_of(marks, keys, values, slot, key)?;
+        let (value, _) = value_of(&IntMap::lent(marks, keys, values)?, slot, key)?;
         marks[slot] = Mark::Freed as u8;
         keys[slot] = 0;
         values[slot] = 0;

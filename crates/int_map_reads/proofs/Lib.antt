@@ -1,3 +1,2 @@
 -- The laws of the reading calls of integer maps.
-pub mod Laws
 pub mod Settled

@@ -24,7 +24,11 @@ use Rattle.kinds.specs.Probing.{along}
 use Rattle.int_slots.specs.Seeking.{probing_beside, probing_map}
 use Rattle.kinds.proofs.Bridge.{spot_of}
 use Rattle.int_slots.proofs.Seeking.{entry_probed, path_probed, free_inside}
-use Rattle.int_slots.specs.Maps.{maps}
+use Rattle.answers.specs.declared.Numbers.{Numbers}
+use Rattle.tables.specs.Reading.{lent_of}
+use Rattle.tables.proofs.Calls.{lent_ok}
+use Rattle.int_slots.specs.Maps.{maps, MapMemory}
+use Rattle.int_slots.proofs.Lent.{map_unprobed}
 use Rattle.kinds.specs.Told.{told}
 use Rattle.int_map_vacant.specs.Numbers.{in_slot_numbers}
 use Rattle.int_slots.specs.Kinds.{vacancy_of}
@@ -65,30 +69,38 @@ module _ (m : IntMemory values) (s k : ℕ) where
       (λ e. rw (e, path_probed values m k e) (good_along (path maps m k)))
       (λ e. rw e (unsized_good (probing_beside values m k) (entry_one e ∙ entry_probed values m k)))
 
-module _ (marks keys vs : List ℕ) (k : ℕ) {r : Result Probed Refusal} (p : r ≡ probing_map (memory marks keys vs) k) where
+module _ (m : MapMemory) (k : ℕ) {r : Result Probed Refusal} (p : r ≡ probing_map m k) where
   -- what a vacant handle is worth
   module _ (s : ℕ) where
-    vacancy_found : vacancy maps (memory marks keys vs) s k ≡ good_of s r
+    vacancy_found : vacancy maps m s k ≡ good_of s r
     unfolding probing_map
-    vacancy_found = rw p (vacancy_probed (memory marks keys vs) s k)
+    vacancy_found = rw p (vacancy_probed m s k)
 
-    pub vacancy_free : {y : Probed} {f e : ℕ} → r ≡ Ok y → y ≡ Free f e → s ≡ f → outcome_numbers (Ok tt) ≡ vacancy_of (memory marks keys vs) s k
+    pub vacancy_free : {y : Probed} {f e : ℕ} → r ≡ Ok y → y ≡ Free f e → s ≡ f → outcome_numbers (Ok tt) ≡ vacancy_of m s k
     unfolding vacancy_of outcome_numbers done_said need
     vacancy_free {y} {f} q h l = rw (vacancy_found, q, h, eq-eqb s f l)
 
-    pub vacancy_other : {y : Probed} {f e : ℕ} → r ≡ Ok y → y ≡ Free f e → (s ≡ f → ⊥) → outcome_numbers (Err BadHandle) ≡ vacancy_of (memory marks keys vs) s k
+    pub vacancy_other : {y : Probed} {f e : ℕ} → r ≡ Ok y → y ≡ Free f e → (s ≡ f → ⊥) → outcome_numbers (Err BadHandle) ≡ vacancy_of m s k
     unfolding vacancy_of outcome_numbers done_said need
     vacancy_other {y} {f} q h l = rw (vacancy_found, q, h, ne_eqb s f l)
 
-    pub vacancy_none : (y : Probed) → r ≡ Ok y → ((f e : ℕ) → y ≡ Free f e → ⊥) → outcome_numbers (Err BadHandle) ≡ vacancy_of (memory marks keys vs) s k
+    pub vacancy_none : (y : Probed) → r ≡ Ok y → ((f e : ℕ) → y ≡ Free f e → ⊥) → outcome_numbers (Err BadHandle) ≡ vacancy_of m s k
     unfolding vacancy_of outcome_numbers done_said
     vacancy_none (Hit f e) q h = rw (vacancy_found, q)
     vacancy_none (Free f e) q h = absurd (h f e refl)
     vacancy_none (Full e) q h = rw (vacancy_found, q)
 
-    pub vacancy_refused : {x : Refusal} → r ≡ Err x → outcome_numbers (Err x) ≡ vacancy_of (memory marks keys vs) s k
+    pub vacancy_refused : {x : Refusal} → r ≡ Err x → outcome_numbers (Err x) ≡ vacancy_of m s k
     unfolding vacancy_of outcome_numbers done_said
     vacancy_refused q = rw (vacancy_found, q)
+
+-- of lent arrays
+module _ (m : MapMemory) (s k : ℕ) {r : Result MapMemory Refusal} (p : r ≡ lent_of maps m) where
+  pub vacancy_lent : {n : MapMemory} → r ≡ Ok n → {a : Numbers} → a ≡ vacancy_of n s k → a ≡ vacancy_of m s k
+  vacancy_lent q h = rw (lent_ok maps m p q).1 at h
+
+  pub vacancy_unlent : {y : Refusal} → r ≡ Err y → outcome_numbers (Err y) ≡ vacancy_of m s k
+  vacancy_unlent q = vacancy_refused m k (map_unprobed m k p q) s refl
 
 -- what the answer says of the theory's
 done_ok : {a : Result (Unit {0}) Refusal} (x : Or (Unit {0})) → outcome_numbers a ≡ done_said x → a ≡ Ok tt → x ≡ ok tt

@@ -11,6 +11,7 @@ ghost use Rattle.int_slots.specs.Maps.{maps, before, after};
 
 use answers::{Case, Numbers, Refusal, case_numbers};
 use int_map_occupied::Occupied;
+use int_slots::IntMap;
 use kinds::{Mark, Probed};
 
 // A handle of the slot that a key would take.
@@ -20,17 +21,10 @@ pub struct Vacant {
 }
 
 // Whether a vacant handle of this slot is good for the key: insert would use that very slot.
-#[tactic(auto, using(crate::proofs::Vacancies::vacancy_free, crate::proofs::Vacancies::vacancy_other, crate::proofs::Vacancies::vacancy_none, crate::proofs::Vacancies::vacancy_refused))]
-fn vacancy_at(
-    marks: &[u8],
-    keys: &[u64],
-    values: &[u64],
-    slot: usize,
-    key: u64,
-) -> Result<(), Refusal>
-    ensures { outcome_numbers result ≡ vacancy_of (before marks.now keys.now values.now) slot key }
+fn vacancy_at(map: &IntMap, slot: usize, key: u64) -> Result<(), Refusal>
+    ensures { outcome_numbers result ≡ vacancy_of map.now slot key }
 {
-    match int_slots::map_probe(marks, keys, values, key)? {
+    match tables::probe(map, key)? {
         Probed::Free(free, _) if slot == free => Ok(()),
         _ => Err(Refusal::BadHandle),
     }
@@ -38,7 +32,6 @@ fn vacancy_at(
 
 impl Vacant {
     // Puts the key and a value into the slot, where insert would use that very slot.
-    #[tactic(auto, using(crate::proofs::Vacancies::insert_refused))]
     pub fn insert(
         self,
         marks: &mut [u8],
@@ -50,7 +43,7 @@ impl Vacant {
         ensures { told (in_slot_numbers result) (after marks.new keys.new values.new) ≡ vacant_insert_of maps (before marks.old keys.old values.old) self.slot key value }
     {
         let slot = self.slot;
-        vacancy_at(marks, keys, values, slot, key)?;
+        vacancy_at(&IntMap::lent(marks, keys, values)?, slot, key)?;
         marks[slot] = Mark::Live as u8;
         keys[slot] = key;
         values[slot] = value;

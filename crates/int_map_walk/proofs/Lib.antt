@@ -1,3 +1,2 @@
--- The laws of walks of integer maps.
-pub mod Equal
+-- What the contracts of walks of integer maps settle.
 pub mod Settled

@@ -1,95 +1,45 @@
-// Walks of an integer map: a walk is a slot number, and each step hands out at most one pair within its budget.
+// Walks of an integer map: each step hands out at most one pair within its budget.
 #![tactic(auto)]
 
 ghost use Rattle.std.specs.Prelude.{◌≡◌};
 ghost use Rattle.kinds.specs.Told.{told};
 ghost use Rattle.kinds.specs.Moved.{moved_on};
-ghost use Rattle.int_slots.specs.Maps.{before};
 ghost use Rattle.int_slots.specs.Steps.{step_of};
+ghost use Rattle.int_slots.specs.Maps.{before};
 ghost use Rattle.int_map_walk.specs.Numbers.{step_numbers};
 
-use answers::{Case, Numbers, Refusal, refused_walk_numbers, walk_numbers};
-use kinds::Ahead;
+use int_slots::IntMap;
+pub use tables::{Stepped, Walk, Yielded, step_numbers};
 
-// A walk of a map is the slot where it stands.
-#[derive(Clone, Copy, Debug, PartialEq, Eq)]
-pub struct Walk {
-    pub at: usize,
-}
-
-// What a step of a walk hands out: a pair, nothing, or that the walk is done.
-#[derive(Clone, Copy, Debug, PartialEq, Eq)]
-pub enum Yielded {
-    Pair(u64, u64),
-    Nothing,
-    Done,
-}
-
-// The answer of a step: the walk moved on, what it hands out or a refusal, and the examined number.
-#[derive(Clone, Copy, Debug, PartialEq, Eq)]
-pub struct Stepped {
-    pub walk: Walk,
-    pub out: Result<Yielded, Refusal>,
-    pub examined: usize,
-}
-
-impl Walk {
-    // A walk starts at slot 0.
-    pub fn start() -> Walk
-        ensures { result.at ≡ 0 }
-    {
-        Walk { at: 0 }
-    }
-
-    // One step with a budget of slots: the pair of the first live slot within it, nothing, or done.
-    pub fn step(self, marks: &[u8], keys: &[u64], values: &[u64], budget: u64) -> Stepped
-        ensures { step_numbers result ≡ step_of (before marks.now keys.now values.now) self.at budget }
-    {
-        let at = self.at;
-        match int_slots::map_ahead(marks, keys, values, at, budget) {
-            Ok(Ahead::Live(slot)) => Stepped {
-                walk: Walk { at: slot + 1 },
-                out: Ok(Yielded::Pair(keys[slot], values[slot])),
-                examined: slot + 1 - at,
-            },
-            Ok(Ahead::Nothing(slot)) => Stepped {
-                walk: Walk { at: slot },
-                out: Ok(Yielded::Nothing),
-                examined: slot - at,
-            },
-            Ok(Ahead::Done) => Stepped {
-                walk: self,
-                out: Ok(Yielded::Done),
-                examined: 0,
-            },
-            Err(why) => Stepped {
-                walk: self,
-                out: Err(why),
-                examined: 0,
-            },
-        }
-    }
-
-    // One step of a lent walk, which moves on in its place.
-    pub fn step_on(&mut self, marks: &[u8], keys: &[u64], values: &[u64], budget: u64) -> Stepped
-        ensures { told (step_numbers result) self.new.at ≡ moved_on (step_of (before marks.now keys.now values.now) self.old.at budget) }
-    {
-        let r = self.step(marks, keys, values, budget);
-        *self = r.walk;
-        r
-    }
-}
-
-// The numbers of a step of a walk.
-#[tactic(auto, unfolding(crate::specs::Numbers::step_numbers, crate::specs::Numbers::yielded_numbers))]
-pub fn step_numbers(s: Stepped) -> Numbers
-    ensures { result ≡ step_numbers s }
+// One step with a budget of slots: the pair of the first live slot within it, nothing, or done.
+#[tactic(auto, unfolding(int_slots::specs::Steps::step_of), using(tables::proofs::Calls::lent_is, tables::proofs::Calls::step_refused))]
+pub fn step(
+    walk: Walk,
+    marks: &[u8],
+    keys: &[u64],
+    values: &[u64],
+    budget: u64,
+) -> Stepped<(u64, u64)>
+    ensures { step_numbers result ≡ step_of (before marks.now keys.now values.now) walk.at budget }
 {
-    let walk = s.walk.at;
-    match s.out {
-        Ok(Yielded::Pair(key, value)) => walk_numbers(Case::Pair, key, value, s.examined, walk),
-        Ok(Yielded::Nothing) => walk_numbers(Case::Nothing, 0, 0, s.examined, walk),
-        Ok(Yielded::Done) => walk_numbers(Case::WalkDone, 0, 0, s.examined, walk),
-        Err(r) => refused_walk_numbers(r, s.examined, walk),
+    match IntMap::lent(marks, keys, values) {
+        Ok(table) => walk.step(&table, budget),
+        Err(why) => Stepped::refused(walk, why),
     }
+}
+
+// One step of a lent walk, which moves on in its place.
+#[tactic(auto, using(tables::proofs::Equal::moved_step))]
+pub fn step_on(
+    walk: &mut Walk,
+    marks: &[u8],
+    keys: &[u64],
+    values: &[u64],
+    budget: u64,
+) -> Stepped<(u64, u64)>
+    ensures { told (step_numbers result) walk.new.at ≡ moved_on (step_of (before marks.now keys.now values.now) walk.old.at budget) }
+{
+    let r = step(*walk, marks, keys, values, budget);
+    *walk = r.walk;
+    r
 }

@@ -1,3 +1,2 @@
--- The laws of walks of integer sets.
-pub mod Equal
+-- What the contracts of walks of integer sets settle.
 pub mod Settled

@@ -1,25 +1,19 @@
--- Each contract settles its answer and the lent arrays: two results that it allows are equal.
-use Prim.Native.Nat.{ℕ}
-use mathlib.Core.Path.{◌≡◌, sym, ◌∙◌}
+-- Each contract settles its answer and the lent walk: two results that it allows are equal.
+use Rattle.std.specs.Prelude.{ℕ}
 use Rattle.kinds.specs.Columns.{nothing}
 use Rattle.kinds.specs.Told.{Settled, SettledWith}
 use Rattle.kinds.proofs.Settled.{settled, settled_with}
 use Rattle.kinds.specs.Moved.{moved_on}
 use Rattle.int_slots.specs.Memory.{IntMemory}
-use Rattle.int_set_walk.specs.declared.Walk.{Walk}
-use Rattle.int_set_walk.specs.Numbers.{step_numbers}
 use Rattle.int_slots.specs.Steps.{set_step_of}
-use Rattle.int_set_walk.proofs.Equal.{step_numbers_injective}
+use Rattle.tables.proofs.Equal.{key_injective}
+use Rattle.int_set_walk.specs.Numbers.{step_numbers}
 
 module _ (m : IntMemory nothing) where
-  -- `Walk::step`.
+  -- `step`.
   pub step_settled : (at budget : ℕ) → Settled step_numbers (set_step_of m at budget)
-  step_settled at budget = settled step_numbers_injective
+  step_settled at budget = settled key_injective
 
-  -- `Walk::step_on`.
+  -- `step_on`.
   pub step_on_settled : (at budget : ℕ) → SettledWith step_numbers (moved_on (set_step_of m at budget))
-  step_on_settled at budget = settled_with step_numbers_injective
-
--- `Walk::start`.
-pub start_settled : (r s : Walk) → r.at ≡ 0 → s.at ≡ 0 → r ≡ s
-start_settled r s p q = let e : r.at ≡ s.at = p ∙ sym q in λ i. record { at = e i }
+  step_on_settled at budget = settled_with key_injective

@@ -8,14 +8,11 @@ use borrow.Author.Tests.{le-leb}
 use lib.Dec.{eqb, leb}
 use lib.ListN.{length}
 use Rattle.model.specs.Store.{path, live_count, used, damaged_slots}
-use Rattle.model.specs.Calls.{Or, no, need, pass, seen_by, spot_by, get, entry, remove, length as length_of}
+use Rattle.model.specs.Calls.{Or, no, need, pass, seen_by, spot_by, get, entry, remove}
 use Rattle.model.proofs.Cases.{by_bool, clash}
 use Rattle.digest.specs.Home.{home_of_word, slots_fit}
 use Rattle.digest.proofs.Bounds.{home_word_below}
 use Rattle.answers.specs.declared.Refusal.TheVariants.{Sizes}
-use Rattle.answers.specs.Numbers.{counted_numbers}
-use Rattle.answers.specs.Said.{count_said}
-use Rattle.kinds.specs.Calls.{len_of}
 use Rattle.kinds.specs.Columns.{Column}
 use Rattle.kinds.specs.Columns as columns
 use Rattle.kinds.specs.Marks.{words_of}
@@ -113,13 +110,6 @@ module _ {W : Type 0} (C : Column W) (m : IntMemory C) where
     pub scan_live : {n : ℕ} → r ≡ Ok n → (damaged_slots (int_store C) m ≡ false) × (live_count (int_store C) m ≡ n) × (n ≤ length m.marks)
     unfolding scanning
     scan_live q = kinds.scan_live (int_store C) m (words_of m.marks) (words_of m.keys) (C.read m.words) refl p q
-
-    -- so where the sizes are right, it is what the length tells
-    pub len_scanned : (int_store C).sized m ≡ true → counted_numbers r ≡ len_of (int_store C) m
-    unfolding scanning len_of length_of need count_said counted_numbers
-    len_scanned e =
-        let t = scanning_cells (int_store C) m (words_of m.marks) (words_of m.keys) (C.read m.words) refl in
-        rw (p, t, e) (by_bool (damaged_slots (int_store C) m) (λ h. rw h) (λ h. rw h))
 
 -- a slot that a probing gives is one of the table's, and there are as many keys as marks
 module _ (marks keys : List ℕ) (k : ℕ) {r : Result Probed Refusal} (p : r ≡ probing marks keys k) where

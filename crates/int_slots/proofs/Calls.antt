@@ -5,11 +5,11 @@ use mathlib.Core.Logic.{◌⊎◌}
 use mathlib.Core.Path.{◌≡◌, refl, ◌∙◌, ap}
 use lib.ListN.{get_or}
 use Rattle.model.specs.Calls.{stored_by, after_insert, removed_by, after_remove}
-use Rattle.answers.specs.Numbers.{got_numbers, member_numbers, contained_numbers, inserted_numbers, added_numbers, removed_numbers, dropped_numbers}
-use Rattle.answers.specs.Said.{got_said, member_said, contained_said, inserted_said, added_said, removed_said, dropped_said, entered_said}
+use Rattle.answers.specs.Numbers.{got_numbers, member_numbers, inserted_numbers, added_numbers, removed_numbers, dropped_numbers}
+use Rattle.answers.specs.Said.{got_said, member_said, inserted_said, added_said, removed_said, dropped_said, entered_said}
 use Rattle.kinds.specs.Columns.{values, nothing}
 use Rattle.kinds.specs.Told.{told}
-use Rattle.kinds.specs.Calls.{get_of, contains_of, remove_of, dropped_of, entry_of}
+use Rattle.kinds.specs.Calls.{get_of, remove_of, dropped_of, entry_of}
 use Rattle.kinds.proofs.Bridge.{seen_of, spot_of, absent_by}
 use Rattle.int_slots.specs.Memory.{IntMemory}
 use Rattle.int_slots.specs.Probing.{probing}
@@ -21,7 +21,6 @@ use Rattle.int_slots.proofs.Bridge.{get_probing, remove_probing, entry_probing}
 use Rattle.int_slots.proofs.Seeking.{get_probed, remove_probed, entry_probed}
 use Rattle.std.specs.Prelude.{Result, Ok, Err}
 use Rattle.answers.specs.declared.Lookup.TheVariants.{Found, Absent}
-use Rattle.answers.specs.declared.Contained.TheVariants as contained
 use Rattle.answers.specs.declared.Inserted.TheVariants as inserted
 use Rattle.answers.specs.declared.Refusal.TheVariants.{NoSlot}
 use Rattle.answers.specs.declared.Refusal.{Refusal}
@@ -95,10 +94,6 @@ module _ (marks keys : List ℕ) (k : ℕ) {r : Result Probed Refusal} (p : r �
   unfolding set_get_of
   set_get_says = rw (get_probing nothing (memory marks keys) k p q refl)
 
-  pub contains_says : contained_said (seen_of {W = Unit {0}} (λ i. tt) x) ≡ contains_of sets (memory marks keys) k
-  unfolding contains_of
-  contains_says = rw (get_probing nothing (memory marks keys) k p q refl)
-
   pub set_remove_says : told (dropped_said (seen_of {W = Unit {0}} (λ i. tt) x)) (removed_by sets (memory marks keys) (seen_of (λ i. tt) x)) ≡ dropped_of sets (memory marks keys) k
   unfolding dropped_of after_remove
   set_remove_says = rw (remove_probing nothing (memory marks keys) k p q refl)
@@ -119,18 +114,6 @@ module _ (marks keys : List ℕ) (k : ℕ) {r : Result Probed Refusal} (p : r �
   pub set_get_refused : {x : Refusal} → r ≡ Err x → member_numbers (Err x) ≡ set_get_of (memory marks keys) k
   unfolding member_numbers member_said
   set_get_refused q = set_get_says marks keys k p q
-
-  pub contains_hit : {y : Probed} {s e : ℕ} → r ≡ Ok y → y ≡ Hit s e → contained_numbers (Ok (contained.Present e)) ≡ contains_of sets (memory marks keys) k
-  unfolding contained_numbers contained_said
-  contains_hit q h = contains_says marks keys k p (q ∙ ap Ok h)
-
-  pub contains_gone : {y : Probed} {e : ℕ} → r ≡ Ok y → ((x : ℕ) × (y ≡ Free x e)) ⊎ (y ≡ Full e) → contained_numbers (Ok (contained.Absent e)) ≡ contains_of sets (memory marks keys) k
-  unfolding contained_numbers contained_said
-  contains_gone q h = rw (absent_by _ h) at (contains_says marks keys k p q)
-
-  pub contains_refused : {x : Refusal} → r ≡ Err x → contained_numbers (Err x) ≡ contains_of sets (memory marks keys) k
-  unfolding contained_numbers contained_said
-  contains_refused q = contains_says marks keys k p q
 
   pub set_remove_gone : {y : Probed} {e : ℕ} → r ≡ Ok y → ((x : ℕ) × (y ≡ Free x e)) ⊎ (y ≡ Full e) → told (dropped_numbers (Ok (Absent e))) (memory marks keys) ≡ dropped_of sets (memory marks keys) k
   unfolding dropped_numbers dropped_said removed_by

@@ -1,5 +1,4 @@
 -- The laws of integer tables.
-pub mod Beside
 pub mod Bridge
 pub mod Lawful
 pub mod Places
@@ -8,4 +7,4 @@ pub mod Seeking
 pub mod Calls
 pub mod MapSizes
 pub mod SetSizes
-pub mod Steps
+pub mod Lent

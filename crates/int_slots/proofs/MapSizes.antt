@@ -40,6 +40,9 @@ module _ (m : IntMemory values) where
       let (a, d) = both (fitting m.marks m.keys) (eqb (length m.marks) (length m.words)) (sym (sized_is values m) ∙ sized_as maps m p q) in
       ((fitting_says m.marks m.keys a).1, sym (eqb-true (length m.marks) (length m.words) d))
 
+  pub map_long : maps.sized m ≡ true → length m.words ≡ length m.marks
+  map_long q = let (a, d) = both (fitting m.marks m.keys) (eqb (length m.marks) (length m.words)) (sym (sized_is values m) ∙ q) in sym (eqb-true (length m.marks) (length m.words) d)
+
 -- what the test of the sizes answered
 module _ (marks keys vs : List ℕ) {b : Bool} (p : b ≡ sized_of maps (memory marks keys vs)) where
   pub fit : b ≡ true → maps.sized (memory marks keys vs) ≡ true

@@ -8,6 +8,10 @@ use Rattle.int_slots.specs.Memory.{IntMemory, int_store, memory}
 abbrev pub maps : Store ℕ ℕ
 maps = int_store values
 
+-- The lent arrays of a map.
+abbrev pub MapMemory : Type 0
+MapMemory = IntMemory values
+
 -- The lent arrays of a map when a call starts, and when it ends.
 abbrev pub before : List ℕ → List ℕ → List ℕ → IntMemory values
 before marks keys vs = memory marks keys vs

@@ -8,6 +8,10 @@ use Rattle.int_slots.specs.Memory.{IntMemory, int_store}
 abbrev pub sets : Store ℕ (Unit {0})
 sets = int_store nothing
 
+-- The lent arrays of a set.
+abbrev pub SetMemory : Type 0
+SetMemory = IntMemory nothing
+
 -- The lent lists of a set.
 abbrev pub memory : List ℕ → List ℕ → IntMemory nothing
 memory marks keys = record { marks = marks; keys = keys; words = tt }

@@ -1,22 +1,193 @@
 // Integer slots: sizes, the look at a slot, the probing loop, the scan, and the next live slot. Maps and sets share them.
 #![tactic(auto)]
 
-ghost use Rattle.std.specs.Prelude.{◌≡◌, true, ◌<◌, ◌≤◌, length};
+ghost use Rattle.std.specs.Prelude.{◌≡◌, true, ◌<◌, ◌≤◌, ℕ, length, get_or};
+ghost use Rattle.int_slots.specs.Sets.{SetMemory, sets, before as set_before};
+ghost use Rattle.tables.specs.Handing.{key_parts, pair_parts};
+ghost use Rattle.tables.specs.Reading.{lent_of};
 ghost use Rattle.model.specs.Path.{find};
 ghost use Rattle.kinds.specs.Marks.{words_of};
 ghost use Rattle.kinds.specs.Probing.{look_of, along};
 ghost use Rattle.kinds.specs.Stepping.{ahead_of};
 ghost use Rattle.int_slots.specs.Probing.{slots_in, probing};
-ghost use Rattle.int_slots.specs.Scanning.{scanning, nexting};
+ghost use Rattle.int_slots.specs.Scanning.{scanning};
 ghost use Rattle.int_slots.specs.Memory.{integers, fitting};
 ghost use Rattle.int_slots.specs.Seeking.{probing_map};
-ghost use Rattle.int_slots.specs.Steps.{set_ahead, map_ahead};
-ghost use Rattle.int_slots.specs.Maps.{maps, before};
+ghost use Rattle.int_slots.specs.Maps.{MapMemory, maps, before};
 ghost use Rattle.kinds.specs.Calls.{sized_of};
 
 use answers::Refusal;
 use digest::{slot_of_word, slots_fit};
 use kinds::{Ahead, Mark, Probed, Sight, ahead_by, ended_at, first_free, next_slot, way};
+use std::marker::Model;
+use tables::Table;
+
+// The lent arrays of an integer set, of right sizes.
+#[derive(Drop)]
+pub struct IntSet<'a> {
+    marks: &'a [u8],
+    keys: &'a [u64],
+}
+
+// Calls see the marks and the keys as the theory's memory.
+impl<'a> Model for IntSet<'a> {
+    ghost Value = { SetMemory };
+
+    ghost view = { λ t. set_before t.marks.now t.keys.now };
+
+    ghost invariant = { λ t. fitting t.marks.now t.keys.now ≡ true };
+}
+
+impl<'a> IntSet<'a> {
+    // The set of these arrays, or refusal 1.
+    #[tactic(auto, unfolding(crate::specs::Memory::fitting, tables::specs::Reading::lent_of))]
+    pub fn lent(marks: &'a [u8], keys: &'a [u64]) -> Result<IntSet<'a>, Refusal>
+        ensures { result ≡ lent_of sets (set_before marks.now keys.now) }
+    {
+        if slots_fit(marks.len() as u64) && marks.len() == keys.len() {
+            Ok(IntSet { marks, keys })
+        } else {
+            Err(Refusal::Sizes)
+        }
+    }
+}
+
+impl<'a> IntSet<'a> {
+    // The key in a slot.
+    #[tactic(auto, using(crate::proofs::Sizes::fitting_says))]
+    pub fn key(&self, slot: usize) -> u64
+        requires { slot < length self.now.marks }
+        ensures { result ≡ get_or self.now.keys slot 0 }
+    {
+        let keys = self.keys;
+        keys[slot]
+    }
+}
+
+impl<'a> Table<u64> for IntSet<'a> {
+    ghost Key = { ℕ };
+
+    ghost Word = { Unit {0} };
+
+    ghost store = { sets };
+
+    ghost state = { λ m. m };
+
+    ghost key_of = { λ k. k };
+
+    type Item = u64;
+
+    ghost tells = { λ m k v i. key_parts k };
+
+    #[tactic(auto, unfolding(crate::specs::Memory::fitting))]
+    fn size(&self) -> usize {
+        self.marks.len()
+    }
+
+    #[tactic(auto, using(tables::proofs::Cells::mark_cell))]
+    fn mark(&self, slot: usize) -> Result<Mark, Refusal> {
+        Mark::try_from(self.marks[slot])
+    }
+
+    #[tactic(auto, unfolding(kinds::specs::Probing::look_at, kinds::specs::Marks::cell, kinds::specs::Marks::mark_read), using(crate::proofs::Sizes::fitting_says))]
+    fn look(&self, slot: usize, key: u64) -> Result<Sight, Refusal> {
+        match Mark::try_from(self.marks[slot])? {
+            Mark::Never => Ok(Sight::Never),
+            Mark::Freed => Ok(Sight::Freed),
+            Mark::Live if self.keys[slot] == key => Ok(Sight::Same),
+            Mark::Live => Ok(Sight::Other),
+        }
+    }
+
+    #[tactic(auto, using(tables::proofs::Cells::held_cell))]
+    fn item(&self, slot: usize) -> u64 {
+        self.key(slot)
+    }
+
+    #[tactic(auto, using(crate::proofs::Sizes::fitting_says, digest::proofs::Bounds::home_word_below))]
+    fn home(&self, key: u64) -> usize {
+        slot_of_word(key, self.marks.len() as u64, 0) as usize
+    }
+}
+
+// The lent arrays of an integer map, of right sizes: the set of its keys, and a value for each slot.
+#[derive(Drop)]
+pub struct IntMap<'a> {
+    set: IntSet<'a>,
+    values: &'a [u64],
+}
+
+impl<'a> Model for IntMap<'a> {
+    ghost Value = { MapMemory };
+
+    ghost view = { λ t. before t.set.marks t.set.keys t.values.now };
+
+    ghost invariant = { λ t. maps.sized (before t.set.marks t.set.keys t.values.now) ≡ true };
+}
+
+impl<'a> IntMap<'a> {
+    // The map of these arrays, or refusal 1.
+    #[tactic(auto, unfolding(tables::specs::Reading::lent_of))]
+    pub fn lent(marks: &'a [u8], keys: &'a [u64], values: &'a [u64]) -> Result<IntMap<'a>, Refusal>
+        ensures { result ≡ lent_of maps (before marks.now keys.now values.now) }
+    {
+        if marks.len() == values.len() {
+            let set = IntSet::lent(marks, keys)?;
+            Ok(IntMap { set, values })
+        } else {
+            Err(Refusal::Sizes)
+        }
+    }
+
+    // The value in a slot.
+    #[tactic(auto, using(crate::proofs::MapSizes::map_long))]
+    pub fn value(&self, slot: usize) -> u64
+        requires { slot < length self.now.marks }
+        ensures { result ≡ get_or self.now.words slot 0 }
+    {
+        let values = self.values;
+        values[slot]
+    }
+}
+
+impl<'a> Table<u64> for IntMap<'a> {
+    ghost Key = { ℕ };
+
+    ghost Word = { ℕ };
+
+    ghost store = { maps };
+
+    ghost state = { λ m. m };
+
+    ghost key_of = { λ k. k };
+
+    type Item = (u64, u64);
+
+    ghost tells = { λ m k v i. pair_parts (k, v) };
+
+    fn size(&self) -> usize {
+        self.set.size()
+    }
+
+    #[tactic(auto, using(tables::proofs::Cells::mark_beside))]
+    fn mark(&self, slot: usize) -> Result<Mark, Refusal> {
+        self.set.mark(slot)
+    }
+
+    #[tactic(auto, using(tables::proofs::Cells::look_beside))]
+    fn look(&self, slot: usize, key: u64) -> Result<Sight, Refusal> {
+        self.set.look(slot, key)
+    }
+
+    #[tactic(auto, using(tables::proofs::Cells::held_cell))]
+    fn item(&self, slot: usize) -> (u64, u64) {
+        (self.set.key(slot), self.value(slot))
+    }
+
+    fn home(&self, key: u64) -> usize {
+        self.set.home(key)
+    }
+}
 
 // Whether marks and keys are of one length that a table may have.
 #[tactic(auto, unfolding(crate::specs::Memory::fitting))]
@@ -94,22 +265,6 @@ pub fn scan(marks: &[u8]) -> Result<usize, Refusal>
     Ok(live)
 }
 
-// The first live or damaged slot from `at` on, before `end`.
-pub fn next_live(marks: &[u8], at: usize, end: usize) -> Result<Option<usize>, Refusal>
-    requires { end ≤ length marks.now }
-    ensures { result ≡ nexting marks.now at end }
-{
-    let mut i = at;
-    while i < end {
-        let here = Mark::try_from(marks[i])?;
-        match here {
-            Mark::Live => return Ok(Some(i)),
-            _ => i += 1,
-        }
-    }
-    Ok(None)
-}
-
 // Whether the three arrays of a map are of one length that a table may have.
 #[tactic(auto, unfolding(kinds::specs::Calls::sized_of))]
 pub fn map_fits(marks: &[u8], keys: &[u64], values: &[u64]) -> bool
@@ -127,43 +282,4 @@ pub fn map_probe(marks: &[u8], keys: &[u64], values: &[u64], key: u64) -> Result
         return Err(Refusal::Sizes);
     }
     probe(marks, keys, key)
-}
-
-// What a step of a walk comes upon where the sizes are right: its tests in order, then the first live slot within its reach.
-#[tactic(auto, unfolding(crate::specs::Scanning::nexting), using(kinds::proofs::Stepping::way_inside, kinds::proofs::Stepping::ahead_upto, kinds::proofs::Stepping::ahead_done, kinds::proofs::Stepping::ahead_refused))]
-fn look_ahead(marks: &[u8], at: usize, budget: u64) -> Result<Ahead, Refusal>
-    ensures { result ≡ ahead_of true (words_of marks.now) (length marks.now) at budget }
-{
-    match way(marks.len(), at, budget)? {
-        Some(end) => ahead_by(next_live(marks, at, end), end),
-        None => Ok(Ahead::Done),
-    }
-}
-
-// What a step of a walk of a set comes upon: refusal 1, or what it comes upon among the marks.
-#[tactic(auto, using(crate::proofs::Steps::set_ahead_law, crate::proofs::Steps::set_unfit))]
-pub fn ahead(marks: &[u8], keys: &[u64], at: usize, budget: u64) -> Result<Ahead, Refusal>
-    ensures { result ≡ set_ahead marks.now keys.now at budget }
-{
-    if !fits(marks, keys) {
-        return Err(Refusal::Sizes);
-    }
-    look_ahead(marks, at, budget)
-}
-
-// The same of a map.
-#[tactic(auto, using(crate::proofs::Steps::map_ahead_law, crate::proofs::Steps::map_unfit))]
-pub fn map_ahead(
-    marks: &[u8],
-    keys: &[u64],
-    values: &[u64],
-    at: usize,
-    budget: u64,
-) -> Result<Ahead, Refusal>
-    ensures { result ≡ map_ahead marks.now keys.now values.now at budget }
-{
-    if !map_fits(marks, keys, values) {
-        return Err(Refusal::Sizes);
-    }
-    look_ahead(marks, at, budget)
 }

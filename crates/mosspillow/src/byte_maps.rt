@@ -233,7 +233,7 @@ pub extern "C" fn moss_byte_map_step(
     ensures { result ≡ step_of (before marks.now offsets.now lengths.now values.now arena.now) walk budget }
 {
     let from = Walk { at: walk as usize };
-    step_numbers(from.step(marks, offsets, lengths, values, arena, budget))
+    step_numbers(byte_map_walk::step(from, marks, offsets, lengths, values, arena, budget))
 }
 
 // One step of a lent walk, which moves on in its place.

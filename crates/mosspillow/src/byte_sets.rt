@@ -188,7 +188,7 @@ pub extern "C" fn moss_byte_set_step(
     ensures { result ≡ set_step_of (before marks.now offsets.now lengths.now arena.now) walk budget }
 {
     let from = Walk { at: walk as usize };
-    step_numbers(from.step(marks, offsets, lengths, arena, budget))
+    step_numbers(byte_set_walk::step(from, marks, offsets, lengths, arena, budget))
 }
 
 // One step of a lent walk, which moves on in its place.

@@ -179,7 +179,7 @@ pub extern "C" fn moss_int_map_step(
     ensures { result ≡ step_of (before marks.now keys.now values.now) walk budget }
 {
     let from = Walk { at: walk as usize };
-    step_numbers(from.step(marks, keys, values, budget))
+    step_numbers(int_map_walk::step(from, marks, keys, values, budget))
 }
 
 // One step of a lent walk, which moves on in its place.

@@ -120,7 +120,7 @@ pub extern "C" fn moss_int_set_step(marks: &[u8], keys: &[u64], walk: u64, budge
     ensures { result ≡ set_step_of (before marks.now keys.now) walk budget }
 {
     let from = Walk { at: walk as usize };
-    step_numbers(from.step(marks, keys, budget))
+    step_numbers(int_set_walk::step(from, marks, keys, budget))
 }
 
 // One step of a lent walk, which moves on in its place.

@@ -4,7 +4,7 @@
 ghost use Rattle.std.specs.Prelude.{◌≤◌};
 
 use answers::{Inserted, Lookup, Refusal};
-use int_map_walk::{Walk, Yielded};
+use int_map_walk::{Walk, Yielded, step};
 use lines::{Decimal, Order, Reading};
 use std::fmt::InlineText;
 use std::io::{self, ErrorKind, Read, Write};
@@ -93,9 +93,9 @@ fn say_got(rt: &HostRuntime, said: Result<Lookup<u64>, Refusal>) -> io::Result<(
 fn say_walk(rt: &HostRuntime, marks: &[u8], keys: &[u64], values: &[u64]) -> io::Result<()> {
     let mut here = Walk::start();
     for _ in 0..MOST + 2 {
-        let step = here.step(marks, keys, values, MOST as u64);
-        match step.out {
-            Ok(Yielded::Pair(key, value)) => {
+        let stepped = step(here, marks, keys, values, MOST as u64);
+        match stepped.out {
+            Ok(Yielded::Item((key, value))) => {
                 say_number(rt, key)?;
                 say_with(rt, b" ", value)?;
             }
@@ -103,7 +103,7 @@ fn say_walk(rt: &HostRuntime, marks: &[u8], keys: &[u64], values: &[u64]) -> io:
             Ok(Yielded::Done) => return say(rt, b"end\n"),
             Err(why) => return say_refusal(rt, why),
         }
-        here = step.walk;
+        here = stepped.walk;
     }
     Ok(())
 }

@@ -1,12 +1,13 @@
--- `byte_map_reads::reserve` meets its contract: refusal 1 where the values do not fit, else what the keys' set tells.
-use Rattle.std.proofs.Common.{◌∙◌}
-use Rattle.byte_slots.specs.Kinds.{maps, sets}
-use Rattle.kinds.proofs.Beside.{reserve_beside}
-use Rattle.byte_map_reads.proofs.Laws.{as_set_law, reserve_short}
+-- `byte_map_reads::reserve` meets its contract: damage is what the survey of the keys finds.
+use Rattle.std.proofs.Common.{rules}
+use Rattle.kinds.specs.Columns.{values}
+use Rattle.byte_slots.specs.Kinds.{maps}
+use Rattle.byte_slots.proofs.Lookups.{reserve_bad}
+use Rattle.tables.proofs.Calls.{lent_is, lent_sized}
 use Rattle.byte_map_reads.proofs.reserve.Goals as goal
 
-pub returns-then-marks-values : goal.returns-then-marks-values
-returns-then-marks-values c = reserve_short _ c.if-marks-values.true _ _
-
-pub returns : goal.returns
-returns c = c.reserve.ensures ∙ reserve_beside maps sets (as_set_law _ c.if-marks-values.false) _ _
+pub returns-in_err-used : goal.returns-in_err-used
+returns-in_err-used c =
+    let e = lent_is maps _ c.lent.ensures c.in_ok-map.was in
+    let z = reserve_bad values _ (lent_sized maps _ c.lent.ensures c.in_ok-map.was) (rw c.keys.ensures at c.survey.ensures) c.args.keys c.args.bytes c.in_err-used.was in
+    search rules

@@ -1,30 +1,16 @@
--- `int_map_entry::entry` meets its contract: each way in which the probing ends is an answer.
-use Rattle.std.specs.Prelude.{Ok}
-use Rattle.std.proofs.Common.{rules, arith, ◌∙◌, ap}
+-- `int_map_entry::entry` meets its contract: the lent table's answer, or refusal 1.
+use Rattle.std.proofs.Common.{refl}
 use Rattle.answers.specs.Said.{entered_said}
 use Rattle.int_map_entry.specs.Numbers.{entered_numbers}
-use Rattle.int_slots.proofs.Seeking.{hit_inside}
+use Rattle.int_slots.specs.Maps.{maps}
+use Rattle.tables.proofs.Calls.{lent_ok}
+use Rattle.int_slots.proofs.Lent.{map_unprobed}
 use Rattle.int_slots.proofs.Calls.{entry_says}
 use Rattle.int_map_entry.proofs.entry.Goals as goal
 
-pub offset_bounds-values-slot : goal.offset_bounds-values-slot
-offset_bounds-values-slot c = let (a, b, d) = hit_inside _ _ c.map_probe.ensures (c.in-Ok-Hit.is ∙ ap Ok c.in-Ok-Hit.field-0-is) in search rules
-
-pub bounds-values-slot : goal.bounds-values-slot
-bounds-values-slot c = let (a, b, d) = hit_inside _ _ c.map_probe.ensures (c.in-Ok-Hit.is ∙ ap Ok c.in-Ok-Hit.field-0-is) in omega arith
-
-pub returns-in-Ok-Hit : goal.returns-in-Ok-Hit
-unfolding entered_numbers entered_said
-returns-in-Ok-Hit c = entry_says _ _ c.map_probe.ensures (c.in-Ok-Hit.is ∙ ap Ok c.in-Ok-Hit.field-0-is)
-
-pub returns-in-Ok-Free : goal.returns-in-Ok-Free
-unfolding entered_numbers entered_said
-returns-in-Ok-Free c = entry_says _ _ c.map_probe.ensures (c.in-Ok-Free.is ∙ ap Ok c.in-Ok-Free.field-0-is)
-
-pub returns-in-Ok-Full : goal.returns-in-Ok-Full
-unfolding entered_numbers entered_said
-returns-in-Ok-Full c = entry_says _ _ c.map_probe.ensures (c.in-Ok-Full.is ∙ ap Ok c.in-Ok-Full.field-0-is)
+pub returns-in-Ok : goal.returns-in-Ok
+returns-in-Ok c = rw (lent_ok maps _ c.lent.ensures c.in-Ok.is).1 at c.entry_in.ensures
 
 pub returns-in-Err : goal.returns-in-Err
 unfolding entered_numbers entered_said
-returns-in-Err c = entry_says _ _ c.map_probe.ensures c.in-Err.is
+returns-in-Err c = entry_says _ _ (map_unprobed _ _ c.lent.ensures c.in-Err.is) refl

@@ -1,0 +1,25 @@
+-- `int_set_reads::get` meets its contract: by what the probing of the lent table found.
+use Rattle.std.proofs.Common.{refl}
+use Rattle.std.proofs.lemmas.Result.{err_from_is_err_and}
+use Rattle.int_slots.proofs.Lent.{set_probed, set_unprobed}
+use Rattle.int_slots.proofs.Calls.{set_get_hit, set_get_gone, set_get_refused}
+use Rattle.int_set_reads.proofs.get.Goals as goal
+
+pub returns-in_err-lent : goal.returns-in_err-lent
+returns-in_err-lent c =
+    let p = err_from_is_err_and c.from_residual.result c.from_residual.ensures.1 in
+    rw (p.1, p.2) (set_get_refused _ _ _ (set_unprobed _ _ c.lent.ensures c.in_err-lent.was) refl)
+
+pub returns-in_err-slot : goal.returns-in_err-slot
+returns-in_err-slot c =
+    let p = err_from_is_err_and c.from_residual-in_err-slot.result c.from_residual-in_err-slot.ensures.1 in
+    rw (p.1, p.2) (set_get_refused _ _ _ (set_probed _ _ c.lent.ensures c.in_ok-lent.was c.probe.ensures.found) c.in_err-slot.was)
+
+pub returns-in-Hit : goal.returns-in-Hit
+returns-in-Hit c = set_get_hit _ _ _ (set_probed _ _ c.lent.ensures c.in_ok-lent.was c.probe.ensures.found) c.in_ok-slot.was c.in-Hit.is
+
+pub returns-in-Free : goal.returns-in-Free
+returns-in-Free c = set_get_gone _ _ _ (set_probed _ _ c.lent.ensures c.in_ok-lent.was c.probe.ensures.found) c.in_ok-slot.was c.in-Free.is
+
+pub returns-in-Free-2 : goal.returns-in-Free-2
+returns-in-Free-2 c = set_get_gone _ _ _ (set_probed _ _ c.lent.ensures c.in_ok-lent.was c.probe.ensures.found) c.in_ok-slot.was c.in-Free.is
