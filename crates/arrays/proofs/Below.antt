@@ -1,7 +1,7 @@
 -- What a copied array holds; and the invariant of a loop that writes an array place by place: below i it holds what it is to hold.
-use Rattle.std.proofs.Common.{ℕ, ◌+◌, ◌≤◌, ◌<◌, List, ◌≡◌, refl, sym, ◌∙◌, arith, eqb-true, eq-eqb, ne_eqb, Bool, true, false, eqb, length, get_or, set, replicate, length-set, get_or-set_same, get_or-set_other, ext_get_or}
+use Rattle.std.proofs.Common.{ℕ, ◌+◌, ◌≤◌, ◌<◌, List, take, ◌≡◌, refl, sym, ◌∙◌, arith, eqb-true, eq-eqb, ne_eqb, Bool, true, false, eqb, length, get_or, set, replicate, length-set, get_or-set_same, get_or-set_other, ext_get_or}
 use Rattle.std.proofs.lemmas.Bool.{eqb-false}
-use Rattle.std.proofs.lemmas.List.{length-replicate, get_or-replicate}
+use Rattle.std.proofs.lemmas.List.{length-replicate, get_or-replicate, take_more, take_more_set, take_all}
 use Rattle.arrays.specs.Whole.{copied}
 
 pub record Below (src s : List ℕ) (i : ℕ) : Type 0 where
@@ -39,11 +39,15 @@ zero_long n s i b = b.long ∙ length-replicate {A = ℕ} n 0
 pub zero_all : (n : ℕ) (s : List ℕ) (i : ℕ) → n ≤ i → Below (replicate n 0) s i → s ≡ replicate n 0
 zero_all n s i l b = below_all (replicate n 0) s i (rw (length-replicate {A = ℕ} n 0) l) b
 
--- a copy onto a list of equal length is the other list, and of another length the list as it was
-pub copied_all : (to from s : List ℕ) (i : ℕ) → length to ≡ length from → length from ≤ i → Below from s i → s ≡ copied to from
-unfolding copied
-copied_all to from s i e l b = rw (eq-eqb (length to) (length from) e) (below_all from s i l b)
+-- a copy onto a list of equal length, element by element: below i the list holds the other's
+pub copied_more : {A : Type 0} (to from s : List A) (i : ℕ) (x : A) → length to ≡ length from → length s ≡ length to → i < length to → x ≡ get_or from i x → take i s ≡ take i from → take (i + 1) (set s i x) ≡ take (i + 1) from
+copied_more to from s i x e l c p b = rw (take_more_set s i x (omega (arith, l)), take_more from i x (omega (arith, e)), b, ← p)
 
+pub copied_all : {A : Type 0} (to from : List A) {s : List A} {i : ℕ} → length to ≡ length from → length s ≡ length to → length to ≤ i → take i s ≡ take i from → s ≡ copied to from
+unfolding copied
+copied_all to from {s} {i} e l c b = rw (eq-eqb (length to) (length from) e) (rw (take_all i s (omega (arith, l)), take_all i from (omega (arith, e))) at b)
+
+-- and onto one of another length the list as it was
 pub copied_not : {A : Type 0} (to from : List A) → (length to ≡ length from → ⊥) → to ≡ copied to from
 unfolding copied
 copied_not to from h = rw (ne_eqb (length to) (length from) h)

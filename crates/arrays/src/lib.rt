@@ -10,6 +10,8 @@ pub fn copy<T: Copy>(to: &mut [T], from: &[T])
     ensures { to.new ≡ copied to.old from.now }
 {
     if to.len() == from.len() {
-        to.copy_from_slice(from);
+        for i in 0..to.len() {
+            to[i] = from[i];
+        }
     }
 }

@@ -1,5 +1,5 @@
 -- What the acts of the storing calls leave is what their definitions say.
-use Rattle.std.proofs.Common.{ℕ, List, ◌≡◌, sym, ◌∙◌, length, get_or, set, Ok, Result}
+use Rattle.std.proofs.Common.{ℕ, Bool, true, List, ◌≡◌, sym, ◌∙◌, length, get_or, set, replicate, Ok, Result}
 use Rattle.model.specs.Calls.{stored_by, removed_by}
 use Rattle.answers.specs.Numbers.{outcome_numbers, stored_numbers, removed_numbers}
 use Rattle.answers.specs.Said.{stored_said, removed_said}
@@ -7,11 +7,12 @@ use Rattle.arrays.specs.Whole.{copied}
 use Rattle.arrays.proofs.Below.{copied_whole}
 use Rattle.kinds.specs.Columns.{values}
 use Rattle.kinds.specs.Told.{told}
-use Rattle.kinds.specs.Calls.{copy_of, remove_of}
+use Rattle.kinds.specs.Calls.{sized_of, make_of, copy_of, remove_of}
+use Rattle.kinds.proofs.Sizing.{sized_as, make_sized}
 use Rattle.tables.specs.Reading.{lent_of}
 use Rattle.tables.proofs.Calls.{lent_ok}
 use Rattle.tables.proofs.Lent.{copy_lent}
-use Rattle.byte_slots.specs.Memory.{Spans, ByteMemory, filled, emptied}
+use Rattle.byte_slots.specs.Memory.{Spans, ByteMemory, filled, emptied, wiped}
 use Rattle.byte_slots.specs.Kinds.{MapMemory, maps, map_memory, insert_of}
 use Rattle.byte_slots.specs.Planning.{planning_map_insert, planning_map_remove}
 use Rattle.byte_slots.proofs.Calls.{insert_says, remove_says}
@@ -27,6 +28,10 @@ use Rattle.byte_slots.specs.declared.RemovePlan.{RemovePlan}
 use Rattle.byte_slots.specs.declared.RemovePlan.TheVariants.{Hit}
 
 module _ (m : ByteMemory values) where
+  -- make and clear, by the test of the sizes
+  pub make_done : {b : Bool} → b ≡ sized_of maps m → b ≡ true → {s : Spans} {ws : List ℕ} → s ≡ wiped m.spans → ws ≡ replicate (length m.words) 0 → told (outcome_numbers (Ok tt)) (record { spans = s; words = ws }) ≡ make_of maps m
+  make_done p q x y = make_sized maps m (sized_as maps m p q) (rw (x, y))
+
   -- copy onto this map from another
   pub copy_done : (n : MapMemory) {g h : Result MapMemory Refusal} {o u : MapMemory} → g ≡ lent_of maps m → g ≡ Ok o → h ≡ lent_of maps n → h ≡ Ok u → {i : ℕ} → i ≡ length u.spans.marks → length m.spans.marks ≡ i → length m.spans.arena ≡ length n.spans.arena → {x y z v w : List ℕ} → x ≡ copied m.spans.marks n.spans.marks → y ≡ copied m.spans.offsets n.spans.offsets → z ≡ copied m.spans.lengths n.spans.lengths → v ≡ copied m.words n.words → w ≡ copied m.spans.arena n.spans.arena → told (outcome_numbers (Ok tt)) (map_memory x y z v w) ≡ copy_of maps m n
   copy_done n p q r s j t f x y z v w =

@@ -1,2 +1,3 @@
 -- What the contracts of the reading calls of byte maps settle.
 pub mod Settled
+pub mod Laws

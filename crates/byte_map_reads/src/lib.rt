@@ -54,7 +54,6 @@ pub fn is_empty(
 }
 
 // Whether so many slots are not live, and so many arena bytes not used; damage as insert finds it.
-#[tactic(auto, using(tables::proofs::Calls::reserve_refused, tables::proofs::Calls::lent_is, tables::proofs::Calls::lent_sized, byte_slots::proofs::Lookups::reserve_bad, byte_slots::proofs::Lookups::reserve_room, byte_slots::proofs::Plans::surveyed_within))]
 pub fn reserve(
     marks: &[u8],
     offsets: &[u16],
@@ -66,9 +65,10 @@ pub fn reserve(
 ) -> Result<(), Refusal>
     ensures { reserved_numbers result ≡ reserve_of maps (before marks.now offsets.now lengths.now values.now arena.now) keys bytes }
 {
-    let map = ByteMap::lent(marks, offsets, lengths, values, arena)?;
-    let used = map.keys().survey()?;
-    reserved_by(map.keys().free_slots(), arena.len() - used, keys, bytes)
+    if marks.len() != values.len() {
+        return Err(Refusal::Sizes);
+    }
+    byte_set_reads::reserve(marks, offsets, lengths, arena, keys, bytes)
 }
 
 // The value of a key, with its slot and the examined number.

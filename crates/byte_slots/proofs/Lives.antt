@@ -1,8 +1,5 @@
 -- The live slots counted by their marks, where none is damaged.
-use Rattle.std.proofs.Common.{ℕ, zero, suc, ◌≤◌, true, false, List, ◌≡◌, refl, add-one, arith, eqb, length, get_or, take}
-use Rattle.std.proofs.Math.Seq.{take-length}
-use Rattle.std.proofs.lemmas.List.Filters.{length-filter_more}
-use Rattle.std.specs.List.{filter}
+use Rattle.std.proofs.Common.{ℕ, zero, suc, ◌+◌, ◌≤◌, true, false, List, ◌≡◌, refl, add-one, arith, length, get_or}
 use Rattle.model.specs.Slots.{is_damaged, total, count, any_damaged}
 use Rattle.model.proofs.Cases.{by_bool, by_lt, clash}
 use Rattle.kinds.specs.Marks.{counted}
@@ -27,16 +24,18 @@ marks_count s (suc n) h = by_bool (is_damaged (bare s n))
     (λ e. let z : true ≡ false = rw e at h in clash cc)
     (λ e. rw (marks_count s n (rw e at h), slot_cell s (λ j. tt {0}) n, ← counted_weighs (mark_of s n) (key_at s n) (tt {0}), whole_mark s n e))
 
--- the marks that are 1, as a filter passes them
-passed_so_far : (marks : List ℕ) (n : ℕ) → n ≤ length marks → length (filter (λ m. eqb m 1) (take n marks)) ≡ live_marks marks n
-unfolding live_marks counted
-passed_so_far marks zero l = refl
-passed_so_far marks (suc n) l =
-    let h = rw add-one at (length-filter_more (λ m. eqb m 1) marks n 0 (omega arith)) in
-    rw (passed_so_far marks n (omega arith)) at h
+-- so many live marks were counted below i
+pub record Counting (marks : List ℕ) (live i : ℕ) : Type 0 where
+  pub low : live ≤ i
+  pub lives : live ≡ live_marks marks i
 
-pub marks_passed : (marks : List ℕ) → length (filter (λ m. eqb m 1) marks) ≡ live_marks marks (length marks)
-marks_passed marks = rw (take-length marks) at (passed_so_far marks (length marks) (omega arith))
+pub count_start : (marks : List ℕ) → Counting marks 0 0
+unfolding live_marks
+count_start marks = record { low = omega arith; lives = refl }
+
+pub count_more : {marks : List ℕ} {live i r : ℕ} → Counting marks live i → r ≡ counted (get_or marks i 0) → Counting marks (live + r) (i + 1)
+unfolding live_marks
+count_more {marks} {live} {i} w e = record { low = omega (arith, w.low, counted_low (get_or marks i 0) e); lives = rw (add-one, e, w.lives) }
 
 live_marks_low : (marks : List ℕ) (n : ℕ) → live_marks marks n ≤ n
 unfolding live_marks

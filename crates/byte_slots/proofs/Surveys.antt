@@ -1,19 +1,16 @@
 -- The survey of all slots, one slot at a time.
-use Rattle.std.proofs.Common.{ℕ, zero, suc, ◌+◌, ◌*◌, ◌≤◌, ◌<◌, true, false, cond, ◌&&◌, List, ◌≡◌, refl, sym, ◌∙◌, add-one, arith, lt-ltb, le-ltb, ltb-true, eqb-true, ne_eqb, ltb, eqb, length, get_or, Result, Ok, Err}
+use Rattle.std.proofs.Common.{ℕ, zero, suc, ◌+◌, ◌*◌, ◌≤◌, ◌<◌, true, false, cond, ◌&&◌, List, ◌≡◌, refl, sym, ◌∙◌, add-one, arith, lt-ltb, le-ltb, ltb-true, eqb-true, ne_eqb, ltb, eqb, length, get_or, Ok, Err}
 use Rattle.model.specs.Slots.{is_damaged, weigh, total, any_damaged}
 use Rattle.model.proofs.Cases.{both, by_bool, by_lt, clash}
 use Rattle.model.proofs.Slots.{damaged_bad}
 use Rattle.digest.specs.Home.{key_limit}
-use Rattle.kinds.specs.declared.Mark.{Mark}
-use Rattle.kinds.specs.declared.Mark.TheVariants.{Live}
-use Rattle.kinds.specs.Marks.{cell, mark_read}
-use Rattle.kinds.proofs.Scanning.{cell_bad, cell_sound, read_bad, read_live, read_other}
+use Rattle.kinds.specs.Marks.{cell}
+use Rattle.kinds.proofs.Scanning.{cell_bad, cell_sound}
 use Rattle.byte_slots.specs.Memory.{Spans, end_at, key_at, bare, used_of, beyond, full_damage, fitting}
 use Rattle.byte_slots.specs.Marks.{mark_of}
 use Rattle.byte_slots.specs.Surveying.{higher_end, surveying}
 use Rattle.byte_slots.proofs.Marks.{mark_past, mark_within, mark_other, slot_cell, live_key}
 use Rattle.byte_slots.proofs.Sizes.{Sized, fitting_says}
-use Rattle.answers.specs.declared.Refusal.{Refusal}
 use Rattle.answers.specs.declared.Refusal.TheVariants as refusal
 
 -- the largest end so far tells whether a live span ends beyond u
@@ -66,18 +63,15 @@ survey_start s f = record { sized = fitting_says s f; within = omega arith; low 
 
 module _ {s : Spans} {used top i : ℕ} (w : Surveying s used top i) where
   -- the next slot's mark, as it was read
-  module _ {m : ℕ} {x : Result Mark Refusal} (l : i < length s.marks) (p : m ≡ get_or s.marks i 0) (read : x ≡ mark_read m) where
-    pub survey_bad : {y : Refusal} → x ≡ Err y → Err y ≡ surveying s
+  module _ {m : ℕ} (l : i < length s.marks) (p : m ≡ get_or s.marks i 0) where
+    pub survey_bad : 2 < m → (m ≡ 1 → ⊥) → Err refusal.Damaged ≡ surveying s
     unfolding surveying full_damage
-    survey_bad q =
-        let (h, e) = read_bad m (sym read ∙ q) in
-        rw (damaged_bad (bare s) (length s.marks) i l (slot_cell s (λ j. tt {0}) i ∙ cell_bad (mark_of s i) (key_at s i) (tt {0}) (omega (arith, mark_other s i p (omega arith)))), e)
+    survey_bad h k = rw (damaged_bad (bare s) (length s.marks) i l (slot_cell s (λ j. tt {0}) i ∙ cell_bad (mark_of s i) (key_at s i) (tt {0}) (omega (arith, mark_other s i p k))))
 
     -- a live one
-    pub survey_live : {n d u t : ℕ} → x ≡ Ok Live → (n ≡ get_or s.lengths i 0) × (n ≤ key_limit) → d ≡ get_or s.offsets i 0 + n → u ≡ used + n → t ≡ higher_end d top → Surveying s u t (i + 1)
+    pub survey_live : {n d u t : ℕ} → m ≡ 1 → (n ≡ get_or s.lengths i 0) × (n ≤ key_limit) → d ≡ get_or s.offsets i 0 + n → u ≡ used + n → t ≡ higher_end d top → Surveying s u t (i + 1)
     unfolding total weigh cell any_damaged beyond is_damaged
-    survey_live {n} {d} {u} {t} v (q, few) r b e =
-        let h : m ≡ 1 = read_live m (sym read ∙ v) in
+    survey_live {n} {d} {u} {t} h (q, few) r b e =
         let raw : get_or s.marks i 0 ≡ 1 = omega arith in
         let a : d ≡ get_or s.offsets i 0 + get_or s.lengths i 0 = omega arith in
         record {
@@ -94,10 +88,9 @@ module _ {s : Spans} {used top i : ℕ} (w : Surveying s used top i) where
         }
 
     -- another
-    pub survey_pass : {u t : ℕ} {o : Mark} → x ≡ Ok o → (o ≡ Live → ⊥) → u ≡ used → t ≡ top → Surveying s u t (i + 1)
+    pub survey_pass : {u t : ℕ} → m ≤ 2 → (m ≡ 1 → ⊥) → u ≡ used → t ≡ top → Surveying s u t (i + 1)
     unfolding total any_damaged beyond
-    survey_pass {u} {t} v idle a b =
-        let (h, k) = read_other m (sym read ∙ v) idle in
+    survey_pass {u} {t} h k a b =
         let shows : m ≡ mark_of s i = mark_other s i p k in
         let none : weigh length (cell (mark_of s i) (key_at s i) (tt {0})) ≡ 0 = passed_cell (mark_of s i) (key_at s i) (omega arith) (λ z. k (omega arith)) in
         record {

@@ -23,7 +23,9 @@ ghost use Rattle.byte_slots.specs.Surveying.{higher_end, surveying};
 
 use answers::{Refusal, Span};
 use digest::{KEY_LIMIT, slot_of_key, slots_fit};
-use kinds::{Ahead, Mark, Probed, Sight, ahead_by, ended_at, first_free, next_slot, way};
+use kinds::{
+    Ahead, Mark, Probed, Sight, ahead_by, count_mark, ended_at, first_free, next_slot, way,
+};
 use std::marker::Model;
 use tables::Table;
 
@@ -117,19 +119,7 @@ impl<'a> ByteSet<'a> {
     pub fn survey(&self) -> Result<usize, Refusal>
         ensures { result ≡ surveying self.now.spans }
     {
-        let mut used = 0;
-        let mut top = 0;
-        for slot in 0..self.marks.len() {
-            if let Mark::Live = Mark::try_from(self.marks[slot])? {
-                let span = self.span(slot);
-                used += span.length;
-                top = higher_end(span.offset + span.length, top);
-            }
-        }
-        if self.arena.len() < used || used < top {
-            return Err(Refusal::Damaged);
-        }
-        Ok(used)
+        survey(self.marks, self.offsets, self.lengths, self.arena)
     }
 
     // The plan of a call that stores a key: its tests in order, then what its path says.
@@ -182,16 +172,14 @@ impl<'a, 'k> Table<&'k [u8]> for ByteSet<'a> {
         requires { slot < sets.size self.now }
         ensures { result ≡ mark_in (sets.slots self.now slot) }
     {
-        match Mark::try_from(self.marks[slot])? {
-            Mark::Live => {
-                let span = self.span(slot);
-                if self.arena.len() < span.offset + span.length {
-                    return Err(Refusal::Damaged);
-                }
-                Ok(Mark::Live)
-            }
-            other => Ok(other),
+        if self.marks[slot] != Mark::Live as u8 {
+            return Mark::try_from(self.marks[slot]);
         }
+        let span = self.span(slot);
+        if self.arena.len() < span.offset + span.length {
+            return Err(Refusal::Damaged);
+        }
+        Ok(Mark::Live)
     }
 
     #[tactic(auto, unfolding(kinds::specs::Probing::look_at, kinds::specs::Marks::mark_read, crate::specs::Memory::slots_of, crate::specs::Memory::spanned, crate::specs::Memory::end_at, crate::specs::Memory::key_at, crate::specs::Memory::part))]
@@ -342,7 +330,7 @@ impl<'a, 'k> Table<&'k [u8]> for ByteMap<'a> {
 pub fn offset_at(offsets: &[u16], i: usize) -> u16
     ensures { result ≡ get_or offsets.now i 0 }
 {
-    offsets.get(i).copied().unwrap_or(0)
+    if i < offsets.len() { offsets[i] } else { 0 }
 }
 
 // The length of slot i.
@@ -373,11 +361,13 @@ pub fn mark_at(
     requires { (i < length marks.now) × (length offsets.now ≡ length marks.now) × (length lengths.now ≡ length marks.now) }
     ensures { result ≡ mark_read (mark_of (spans_before marks.now offsets.now lengths.now arena.now) i) }
 {
-    let mark = Mark::try_from(marks[i])?;
-    if mark == Mark::Live && arena.len() < (offsets[i] as usize) + (len_at(lengths, i) as usize) {
+    if marks[i] != Mark::Live as u8 {
+        return Mark::try_from(marks[i]);
+    }
+    if arena.len() < (offsets[i] as usize) + (len_at(lengths, i) as usize) {
         return Err(Refusal::Damaged);
     }
-    Ok(mark)
+    Ok(Mark::Live)
 }
 
 // The key of slot i, whose span ends in the arena.
@@ -566,10 +556,11 @@ pub fn probe(
 pub fn live_marks(marks: &[u8]) -> usize
     ensures { result ≡ live_marks marks.now (length marks.now) }
 {
-    marks
-        .iter()
-        .filter(|mark| **mark == Mark::Live as u8)
-        .count()
+    let mut live = 0;
+    for i in 0..marks.len() {
+        live += count_mark(marks[i]);
+    }
+    live
 }
 
 // The largest end of a live span so far, after one more.
@@ -589,13 +580,13 @@ pub fn survey(marks: &[u8], offsets: &[u16], lengths: &[u8], arena: &[u8]) -> Re
     let mut top = 0;
     let mut i = 0;
     while i < marks.len() {
-        match Mark::try_from(marks[i])? {
-            Mark::Live => {
-                let len = len_at(lengths, i) as usize;
-                used += len;
-                top = higher_end((offsets[i] as usize) + len, top);
-            }
-            Mark::Never | Mark::Freed => {}
+        let state = marks[i];
+        if state == Mark::Live as u8 {
+            let len = len_at(lengths, i) as usize;
+            used += len;
+            top = higher_end((offsets[i] as usize) + len, top);
+        } else if (Mark::Freed as u8) < state {
+            return Err(Refusal::Damaged);
         }
         i += 1;
     }

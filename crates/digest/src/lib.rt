@@ -61,12 +61,18 @@ pub fn digest_key(start: u64, bytes: &[u8]) -> u64
 }
 
 // The digest of a u64 key, as its 8 bytes, low byte first, in a table with this start number.
-#[tactic(auto, using(crate::proofs::Steps::eight_is))]
 pub fn digest_word(start: u64, x: u64) -> u64
     ensures { result ≡ word_of start x }
 {
-    let bytes = x.to_le_bytes();
-    digest_key(start, &bytes)
+    let mut h = start ^ PUBLISHED;
+    let mut rest = x;
+    let mut left: u64 = 8;
+    while 0 < left {
+        h = mix(h, (rest % 256) as u8);
+        rest = rest / 256;
+        left -= 1;
+    }
+    h
 }
 
 // The slot of a digest among this many slots; of no slots, the digest itself.

@@ -41,7 +41,7 @@ pub fn insert(
 ) -> Result<Inserted<u64>, Refusal>
     ensures { told (inserted_numbers result) (after marks.new keys.new values.new) ≡ insert_of (before marks.old keys.old values.old) key value }
 {
-    match tables::probe(&IntMap::lent(marks, keys, values)?, key)? {
+    match IntMap::lent(marks, keys, values)?.probe(key)? {
         Probed::Hit(slot, examined) => {
             let old = values[slot];
             values[slot] = value;
@@ -66,7 +66,7 @@ pub fn remove(
 ) -> Result<Lookup<u64>, Refusal>
     ensures { told (removed_numbers result) (after marks.new keys.new values.new) ≡ remove_of maps (before marks.old keys.old values.old) key }
 {
-    match tables::probe(&IntMap::lent(marks, keys, values)?, key)? {
+    match IntMap::lent(marks, keys, values)?.probe(key)? {
         Probed::Hit(slot, examined) => {
             let old = values[slot];
             marks[slot] = Mark::Freed as u8;

@@ -31,7 +31,7 @@ pub enum Entered {
 fn entry_in(map: &IntMap, key: u64) -> Entered
     ensures { entered_numbers result ≡ entry_of maps map.now key }
 {
-    match tables::probe(map, key) {
+    match map.probe(key) {
         Ok(Probed::Hit(slot, examined)) => Entered::Occupied(
             Occupied { slot },
             map.value(slot),

@@ -1,2 +1,3 @@
 -- The laws of the reading calls of integer maps.
 pub mod Settled
+pub mod Laws

@@ -32,15 +32,13 @@ pub fn is_empty(marks: &[u8], keys: &[u64], values: &[u64]) -> Result<bool, Refu
 }
 
 // Whether so many slots are not live.
-#[tactic(auto, using(kinds::proofs::Counts::reserve_not))]
 pub fn reserve(marks: &[u8], keys: &[u64], values: &[u64], asked: u64) -> Result<(), Refusal>
     ensures { reserved_numbers result ≡ reserve_of maps (before marks.now keys.now values.now) asked 0 }
 {
-    let left = marks.len() - len(marks, keys, values)?;
-    if (left as u64) < asked {
-        return Err(Refusal::NoSlot);
+    if marks.len() != values.len() {
+        return Err(Refusal::Sizes);
     }
-    Ok(())
+    int_set_reads::reserve(marks, keys, asked)
 }
 
 // The value of a key, with its slot and the examined number.
@@ -48,7 +46,7 @@ pub fn get(marks: &[u8], keys: &[u64], values: &[u64], key: u64) -> Result<Looku
     ensures { got_numbers result ≡ get_of maps (before marks.now keys.now values.now) key }
 {
     let map = IntMap::lent(marks, keys, values)?;
-    match tables::probe(&map, key)? {
+    match map.probe(key)? {
         Probed::Hit(slot, examined) => Ok(Lookup::Found(map.value(slot), slot, examined)),
         Probed::Free(_, examined) | Probed::Full(examined) => Ok(Lookup::Absent(examined)),
     }

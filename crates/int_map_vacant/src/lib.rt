@@ -24,7 +24,7 @@ pub struct Vacant {
 fn vacancy_at(map: &IntMap, slot: usize, key: u64) -> Result<(), Refusal>
     ensures { outcome_numbers result ≡ vacancy_of map.now slot key }
 {
-    match tables::probe(map, key)? {
+    match map.probe(key)? {
         Probed::Free(free, _) if slot == free => Ok(()),
         _ => Err(Refusal::BadHandle),
     }

@@ -34,7 +34,7 @@ pub fn clear(marks: &mut [u8], keys: &mut [u64]) -> Result<(), Refusal>
 pub fn insert(marks: &mut [u8], keys: &mut [u64], key: u64) -> Result<Inserted<()>, Refusal>
     ensures { told (added_numbers result) (after marks.new keys.new) ≡ set_insert_of (before marks.old keys.old) key }
 {
-    match tables::probe(&IntSet::lent(marks, keys)?, key)? {
+    match IntSet::lent(marks, keys)?.probe(key)? {
         Probed::Hit(slot, examined) => Ok(Inserted::Replaced((), slot, examined)),
         Probed::Free(slot, examined) => {
             marks[slot] = Mark::Live as u8;
@@ -49,7 +49,7 @@ pub fn insert(marks: &mut [u8], keys: &mut [u64], key: u64) -> Result<Inserted<(
 pub fn remove(marks: &mut [u8], keys: &mut [u64], key: u64) -> Result<Lookup<()>, Refusal>
     ensures { told (dropped_numbers result) (after marks.new keys.new) ≡ dropped_of sets (before marks.old keys.old) key }
 {
-    match tables::probe(&IntSet::lent(marks, keys)?, key)? {
+    match IntSet::lent(marks, keys)?.probe(key)? {
         Probed::Hit(slot, examined) => {
             marks[slot] = Mark::Freed as u8;
             keys[slot] = 0;

@@ -48,7 +48,7 @@ pub fn reserve(marks: &[u8], keys: &[u64], asked: u64) -> Result<(), Refusal>
 pub fn get(marks: &[u8], keys: &[u64], key: u64) -> Result<Lookup<u64>, Refusal>
     ensures { member_numbers result ≡ set_get_of (before marks.now keys.now) key }
 {
-    match tables::probe(&IntSet::lent(marks, keys)?, key)? {
+    match IntSet::lent(marks, keys)?.probe(key)? {
         Probed::Hit(slot, examined) => Ok(Lookup::Found(key, slot, examined)),
         Probed::Free(_, examined) | Probed::Full(examined) => Ok(Lookup::Absent(examined)),
     }

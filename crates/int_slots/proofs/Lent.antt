@@ -14,7 +14,7 @@ use Rattle.tables.specs.Reading.{lent_of}
 use Rattle.tables.proofs.Calls.{lent_ok, lent_err}
 use Rattle.int_slots.specs.Memory.{IntMemory, int_store, fitting}
 use Rattle.int_slots.specs.Maps.{maps, MapMemory}
-use Rattle.int_slots.specs.Sets.{sets, SetMemory}
+use Rattle.int_slots.specs.Sets.{sets, SetMemory, memory}
 use Rattle.int_slots.specs.Probing.{probing}
 use Rattle.int_slots.specs.Seeking.{probing_beside, probing_map}
 use Rattle.int_slots.proofs.Bridge.{sized_is, probing_unfit}
@@ -48,6 +48,20 @@ set_probing m k s p = sized_probed nothing m k s p
 pub map_probing : (m : MapMemory) (k : ℕ) → maps.sized m ≡ true → {x : Result Probed Refusal} → x ≡ tables.probing maps m k → x ≡ probing_map m k
 unfolding probing_map
 map_probing m k s p = sized_probed values m k s p
+
+-- and the other way: what the path over the arrays found is what the probing of the slots finds
+pub set_path : (m : SetMemory) (k : ℕ) → sets.sized m ≡ true → {x : Result Probed Refusal} → x ≡ probing m.marks m.keys k → x ≡ tables.probing sets m k
+unfolding probing_beside tables.probing
+set_path m k s p = p ∙ path_probed nothing m k s
+
+pub set_fit : (m : SetMemory) → fitting m.marks m.keys ≡ true → sets.sized m ≡ true
+set_fit m f = sized_is nothing m ∙ (rw f)
+
+pub map_path : (m : MapMemory) (k : ℕ) → maps.sized m ≡ true → sets.sized (memory m.marks m.keys) ≡ true → {x : Result Probed Refusal} → x ≡ tables.probing sets (memory m.marks m.keys) k → x ≡ tables.probing maps m k
+unfolding probing_beside tables.probing
+map_path m k s t p =
+    let (a, b) = both (fitting m.marks m.keys) (values.long m.words (length m.marks)) (sym (sized_is values m) ∙ s) in
+    set_probing (memory m.marks m.keys) k t p ∙ (rw b at (path_probed values m k s))
 
 -- a set's arrays
 module _ (m : SetMemory) (k : ℕ) {r : Result SetMemory Refusal} (p : r ≡ lent_of sets m) where

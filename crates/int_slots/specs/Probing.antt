@@ -1,5 +1,5 @@
 -- What the probing loop over marks and keys yields.
-use Rattle.std.specs.Prelude.{ℕ, cond, List, length}
+use Rattle.std.specs.Prelude.{ℕ, ◌+◌, ◌-◌, cond, ltb, List, length}
 use Rattle.model.specs.Slots.{Table}
 use Rattle.model.specs.Path.{find}
 use Rattle.answers.specs.declared.Refusal.TheVariants as refusal
@@ -21,3 +21,7 @@ probing marks keys k =
     cond (fitting marks keys)
     (along (length marks) (home_of_word 0 (length marks) k) (find integers (length marks) (home_of_word 0 (length marks) k) (slots_in marks keys) k))
     (Err refusal.Sizes)
+
+-- How far a slot stands behind the home slot along a path.
+unfoldable pub walked : ℕ → ℕ → ℕ → ℕ
+walked S h s = cond (ltb s h) (s + (S - h)) (s - h)

@@ -1,15 +1,16 @@
 // Integer slots: sizes, the look at a slot, the probing loop, the scan, and the next live slot. Maps and sets share them.
 #![tactic(auto)]
 
-ghost use Rattle.std.specs.Prelude.{◌≡◌, true, ◌<◌, ◌≤◌, ℕ, length, get_or};
+ghost use Rattle.std.specs.Prelude.{◌≡◌, true, ◌+◌, ◌<◌, ◌≤◌, ℕ, length, get_or};
 ghost use Rattle.int_slots.specs.Sets.{SetMemory, sets, before as set_before};
 ghost use Rattle.tables.specs.Handing.{key_parts, pair_parts};
-ghost use Rattle.tables.specs.Reading.{lent_of};
+ghost use Rattle.tables.specs.Reading.{lent_of, probing as probing_in};
 ghost use Rattle.model.specs.Path.{find};
 ghost use Rattle.kinds.specs.Marks.{words_of};
-ghost use Rattle.kinds.specs.Probing.{look_of, along};
+ghost use Rattle.kinds.specs.Probing.{first_free, look_of, along};
+ghost use Rattle.kinds.specs.declared.Probed.TheVariants.{Free};
 ghost use Rattle.kinds.specs.Stepping.{ahead_of};
-ghost use Rattle.int_slots.specs.Probing.{slots_in, probing};
+ghost use Rattle.int_slots.specs.Probing.{slots_in, probing, walked};
 ghost use Rattle.int_slots.specs.Scanning.{scanning};
 ghost use Rattle.int_slots.specs.Memory.{integers, fitting};
 ghost use Rattle.int_slots.specs.Seeking.{probing_map};
@@ -53,6 +54,15 @@ impl<'a> IntSet<'a> {
 }
 
 impl<'a> IntSet<'a> {
+    // The path of a key, over the arrays themselves.
+    #[inline(always)]
+    pub fn probe(&self, key: u64) -> Result<Probed, Refusal>
+        ensures found { result ≡ probing_in sets self.now key }
+        ensures sized { sets.sized self.now ≡ true }
+    {
+        path(self.marks, self.keys, key)
+    }
+
     // The key in a slot.
     #[tactic(auto, using(crate::proofs::Sizes::fitting_says))]
     pub fn key(&self, slot: usize) -> u64
@@ -89,14 +99,9 @@ impl<'a> Table<u64> for IntSet<'a> {
         Mark::try_from(self.marks[slot])
     }
 
-    #[tactic(auto, unfolding(kinds::specs::Probing::look_at, kinds::specs::Marks::cell, kinds::specs::Marks::mark_read), using(crate::proofs::Sizes::fitting_says))]
+    #[tactic(auto, unfolding(kinds::specs::Probing::look_of), using(crate::proofs::Sizes::fitting_says))]
     fn look(&self, slot: usize, key: u64) -> Result<Sight, Refusal> {
-        match Mark::try_from(self.marks[slot])? {
-            Mark::Never => Ok(Sight::Never),
-            Mark::Freed => Ok(Sight::Freed),
-            Mark::Live if self.keys[slot] == key => Ok(Sight::Same),
-            Mark::Live => Ok(Sight::Other),
-        }
+        look(self.marks[slot], self.keys[slot], key)
     }
 
     #[tactic(auto, using(tables::proofs::Cells::held_cell))]
@@ -137,6 +142,16 @@ impl<'a> IntMap<'a> {
         } else {
             Err(Refusal::Sizes)
         }
+    }
+
+    // The path of a key: that of the set of the keys.
+    #[inline(always)]
+    #[tactic(auto, using(crate::proofs::Lent::map_path))]
+    pub fn probe(&self, key: u64) -> Result<Probed, Refusal>
+        ensures found { result ≡ probing_in maps self.now key }
+        ensures sized { maps.sized self.now ≡ true }
+    {
+        self.set.probe(key)
     }
 
     // The value in a slot.
@@ -210,42 +225,72 @@ fn look(mark: u8, held: u64, key: u64) -> Result<Sight, Refusal>
     }
 }
 
+// How many slots a path has examined that began at its home slot and stands at this one.
+#[tactic(auto, unfolding(crate::specs::Probing::walked))]
+fn examined(home: usize, slot: usize, size: usize) -> usize
+    requires { (home < size) × (slot < size) }
+    ensures { result ≡ walked size home slot + 1 }
+{
+    if slot < home {
+        slot + (size - home) + 1
+    } else {
+        slot - home + 1
+    }
+}
+
+// The answer of a path that ends at a slot that was never used.
+fn free_end(free: usize, slot: usize, home: usize, size: usize) -> Probed
+    requires { (home < size) × (slot < size) }
+    ensures { result ≡ Free (first_free size free slot) (walked size home slot + 1) }
+{
+    Probed::Free(first_free(free, slot, size), examined(home, slot, size))
+}
+
 // The path of a key from its home slot, slot by slot: each break is an answer.
+#[inline(always)]
 fn walk_path(marks: &[u8], keys: &[u64], key: u64, home: usize) -> Result<Probed, Refusal>
     requires { (home < length marks.now) × (length keys.now ≡ length marks.now) }
     ensures { result ≡ along (length marks.now) home (find integers (length marks.now) home (slots_in marks.now keys.now) key) }
 {
     let size = marks.len();
     let mut slot = home;
-    let mut n = 0;
     let mut free = size;
     loop {
         match look(marks[slot], keys[slot], key)? {
-            Sight::Never => break Ok(ended_at(first_free(free, slot, size), size, n + 1)),
+            Sight::Never => break Ok(free_end(free, slot, home, size)),
             Sight::Freed => {
                 free = first_free(free, slot, size);
             }
-            Sight::Same => break Ok(Probed::Hit(slot, n + 1)),
+            Sight::Same => break Ok(Probed::Hit(slot, examined(home, slot, size))),
             Sight::Other => {}
         }
-        n += 1;
-        if n == size {
-            break Ok(ended_at(free, size, n));
-        }
         slot = next_slot(slot, size);
+        if slot == home {
+            break Ok(ended_at(free, size, size));
+        }
     }
 }
 
+// The path of a key in arrays of right sizes, from its home slot.
+#[inline(always)]
+#[tactic(auto, using(crate::proofs::Sizes::home_fits, crate::proofs::Sizes::probing_fit))]
+fn path(marks: &[u8], keys: &[u64], key: u64) -> Result<Probed, Refusal>
+    requires { fitting marks.now keys.now ≡ true }
+    ensures { result ≡ probing marks.now keys.now key }
+{
+    let home = slot_of_word(key, marks.len() as u64, 0) as usize;
+    walk_path(marks, keys, key, home)
+}
+
 // The probing of a key: refusal 1, or what its path found.
-#[tactic(auto, using(crate::proofs::Sizes::home_fits, crate::proofs::Sizes::probing_fit, crate::proofs::Sizes::probing_misfit))]
+#[tactic(auto, using(crate::proofs::Sizes::probing_misfit))]
 pub fn probe(marks: &[u8], keys: &[u64], key: u64) -> Result<Probed, Refusal>
     ensures { result ≡ probing marks.now keys.now key }
 {
     if !fits(marks, keys) {
         return Err(Refusal::Sizes);
     }
-    let home = slot_of_word(key, marks.len() as u64, 0) as usize;
-    walk_path(marks, keys, key, home)
+    path(marks, keys, key)
 }
 
 // The scan of all marks: damage, else the number of live slots.

@@ -12,7 +12,7 @@ use Rattle.model.specs.Walk.{halts}
 use Rattle.model.proofs.Cases.{by_bool, clash}
 use Rattle.model.proofs.Slots.{damaged_bad}
 use Rattle.kinds.specs.declared.Mark.{Mark}
-use Rattle.kinds.specs.declared.Mark.TheVariants.{Never, Live, Freed}
+use Rattle.kinds.specs.declared.Mark.TheVariants.{Live}
 use Rattle.kinds.specs.Marks.{cell, marks_only, counted, mark_read}
 use Rattle.kinds.specs.Scanning.{scanning_of, next_at, nexting_of}
 use Rattle.std.specs.Prelude.{Ok, Err, Result, Option, Some, None}

@@ -9,7 +9,6 @@ ghost use Rattle.kinds.specs.Rooms.{reserved_by};
 ghost use Rattle.kinds.specs.Stepping.{way_of, ahead_by};
 
 use answers::Refusal;
-use std::cmp::Ordering;
 
 // What a mark says of its slot, where it is not damaged. The numbers are those of lent memory.
 #[derive(Clone, Copy, Debug, PartialEq, Eq)]
@@ -25,6 +24,7 @@ impl TryFrom<u8> for Mark {
 
     ghost try_from_gives = { λ mark r. r ≡ mark_read mark };
 
+    #[inline(always)]
     #[tactic(auto, unfolding(crate::specs::Marks::mark_read))]
     fn try_from(mark: u8) -> Result<Mark, Refusal> {
         match mark {
@@ -129,11 +129,13 @@ pub fn way(size: usize, at: usize, budget: u64) -> Result<Option<usize>, Refusal
     if budget == 0 {
         return Err(Refusal::NoBudget);
     }
-    match at.cmp(&size) {
-        Ordering::Less => Ok(Some(at + reach(size, at, budget))),
-        Ordering::Equal => Ok(None),
-        Ordering::Greater => Err(Refusal::WalkBeyond),
+    if at < size {
+        return Ok(Some(at + reach(size, at, budget)));
     }
+    if size < at {
+        return Err(Refusal::WalkBeyond);
+    }
+    Ok(None)
 }
 
 // What a step comes upon, by the live slot that stands first before the slot up to which it looks.

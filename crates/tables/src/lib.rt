@@ -110,7 +110,7 @@ pub fn scan<K, T: Table<K>>(table: &T) -> Result<usize, Refusal>
 }
 
 // The first live or damaged slot from `at` on, before `end`.
-fn next_live<K, T: Table<K>>(table: &T, at: usize, end: usize) -> Result<Option<usize>, Refusal>
+pub fn next_live<K, T: Table<K>>(table: &T, at: usize, end: usize) -> Result<Option<usize>, Refusal>
     requires { end ≤ T.store.size (T.state table.now) }
     ensures { result ≡ nexting T.store (T.state table.now) at end }
 {

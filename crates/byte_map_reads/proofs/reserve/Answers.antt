@@ -1,13 +1,10 @@
--- `byte_map_reads::reserve` meets its contract: damage is what the survey of the keys finds.
-use Rattle.std.proofs.Common.{rules}
-use Rattle.kinds.specs.Columns.{values}
-use Rattle.byte_slots.specs.Kinds.{maps}
-use Rattle.byte_slots.proofs.Lookups.{reserve_bad}
-use Rattle.tables.proofs.Calls.{lent_is, lent_sized}
+-- `byte_map_reads::reserve` meets its contract: refusal 1 where the values do not fit, else what the set of the keys tells.
+use Rattle.std.proofs.Common.{rules, ◌∙◌}
+use Rattle.byte_map_reads.proofs.Laws.{reserve_as_set, reserve_short}
 use Rattle.byte_map_reads.proofs.reserve.Goals as goal
 
-pub returns-in_err-used : goal.returns-in_err-used
-returns-in_err-used c =
-    let e = lent_is maps _ c.lent.ensures c.in_ok-map.was in
-    let z = reserve_bad values _ (lent_sized maps _ c.lent.ensures c.in_ok-map.was) (rw c.keys.ensures at c.survey.ensures) c.args.keys c.args.bytes c.in_err-used.was in
-    search rules
+pub returns-then-marks-values : goal.returns-then-marks-values
+returns-then-marks-values c = reserve_short _ c.if-marks-values.true _ _
+
+pub returns : goal.returns
+returns c = (search rules) ∙ reserve_as_set _ c.if-marks-values.false _ _

@@ -1,11 +1,14 @@
--- `byte_slots::live_marks` meets its contract: what passes the filter is counted by a sum over the list.
-use Rattle.std.proofs.Common.{rules, tests, eqb, ◌∙◌}
-use Rattle.std.proofs.lemmas.Iterator.{YieldsList-from_slice}
-use Rattle.std.proofs.lemmas.Iterator.Consumers.{count_from_yields_List, YieldsList-from_filter}
-use Rattle.byte_slots.proofs.Lives.{marks_passed}
+-- `byte_slots::live_marks` meets its contract: each turn of the loop is a mark more.
+use Rattle.std.proofs.Common.{rules}
+use Rattle.byte_slots.proofs.Lives.{count_start, count_more}
+use Rattle.kinds.proofs.Scanning.{counted_low}
 use Rattle.byte_slots.proofs.live_marks.Goals as goal
 
-pub returns : goal.returns
-returns c =
-    count_from_yields_List c.filter.result _ c.count.ensures.ran (YieldsList-from_filter _ (λ m. eqb m 1) (YieldsList-from_slice c.args.marks.now cc) c.filter.ensures.closure (λ x r q k. search (rules, tests)))
-    ∙ marks_passed c.args.marks.now
+pub loop-i-init : goal.loop-i-init
+loop-i-init c = count_start _
+
+pub overflow_add-live : goal.overflow_add-live
+overflow_add-live c = let low = c.loop-i.invariant.low in let one = counted_low _ c.count_mark-live.ensures in search rules
+
+pub loop-i-preserved : goal.loop-i-preserved
+loop-i-preserved c = count_more c.loop-i.invariant c.count_mark-live.ensures

@@ -1,21 +1,20 @@
 -- `byte_slots::survey` meets its contract. The loop's invariant: no mark above 2 so far, the sum and the largest end. The measure is what is left of the length.
-use Rattle.std.proofs.Common.{Ok, rules, refl, ◌∙◌, ap}
+use Rattle.std.proofs.Common.{refl, ◌∙◌}
 use Rattle.byte_slots.proofs.Surveys.{survey_start, survey_bad, survey_live, survey_pass, survey_over, survey_beyond, survey_end}
-use Rattle.byte_slots.proofs.Marks.{not_live}
 use Rattle.byte_slots.proofs.survey.Goals as goal
-use Rattle.byte_slots.proofs.survey.Goals.{in-Live, in-Never, then-arena-used-via-then-arena-used, then-arena-used-via-else-arena-used+then-used-top}
+use Rattle.byte_slots.proofs.survey.Goals.{then-state, else-state+else-state-2, then-arena-used-via-then-arena-used, then-arena-used-via-else-arena-used+then-used-top}
 
 pub loop-i-init : goal.loop-i-init
 loop-i-init c = survey_start _ c.requires
 
-pub returns-in_err-try_from : goal.returns-in_err-try_from
-returns-in_err-try_from c = let z = survey_bad c.loop-i.invariant c.loop-i-test.true refl c.try_from.ensures c.in_err-try_from.was in search rules
+pub returns-then-state-2 : goal.returns-then-state-2
+returns-then-state-2 c = survey_bad c.loop-i.invariant c.loop-i-test.true refl c.if-state-2.true c.if-state.false
 
 pub loop-i-preserved : goal.loop-i-preserved
 loop-i-preserved c =
-    elim c.match-branch-2.branch [
-      | in-Live w ↦ survey_live c.loop-i.invariant c.loop-i-test.true refl c.try_from.ensures (c.in_ok-try_from.was ∙ ap Ok w.in-Live.is) w.len_at-len.ensures refl w.used-is (w.top-is ∙ w.higher_end-top.ensures)
-      | in-Never w ↦ survey_pass c.loop-i.invariant c.loop-i-test.true refl c.try_from.ensures c.in_ok-try_from.was (not_live w.in-Never.is) w.used-is w.top-is
+    elim c.if-state.branch [
+      | then-state w ↦ survey_live c.loop-i.invariant c.loop-i-test.true refl w.if-state.true w.len_at-len.ensures refl w.used-is (w.top-is ∙ w.higher_end-top.ensures)
+      | else-state+else-state-2 w ↦ survey_pass c.loop-i.invariant c.loop-i-test.true refl w.if-state-2.false w.if-state.false w.used-is w.top-is
     ]
 
 pub returns-then-arena-used : goal.returns-then-arena-used
