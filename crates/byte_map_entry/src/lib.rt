@@ -59,10 +59,10 @@ impl Entered {
     fn vacant(self, size: usize) -> Vacant
         ensures { result.slot ≡ vacant_slot_of size self }
     {
-        match self {
-            Entered::Vacant(vacant, _) => vacant,
-            Entered::Occupied(..) | Entered::Refused(_) => Vacant { slot: size },
-        }
+        let Entered::Vacant(vacant, _) = self else {
+            return Vacant { slot: size };
+        };
+        vacant
     }
 
     // Keeps a present value, else puts the default in; the value now in the slot is answered.

@@ -9,7 +9,7 @@ ghost use Rattle.byte_slots.specs.Maps.{before};
 
 use answers::{Contained, Lookup, Refusal};
 use byte_slots::ByteMap;
-use kinds::{Probed, reserved_by};
+use kinds::Probed;
 
 // The number of slots.
 #[tactic(auto, using(tables::proofs::Calls::capacity_refused, tables::proofs::Calls::lent_is))]

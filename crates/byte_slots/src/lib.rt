@@ -16,16 +16,13 @@ ghost use Rattle.byte_slots.specs.Maps.{before};
 ghost use Rattle.byte_slots.specs.Memory.{part, offset_of, length_of, spans_now, spans_before, fitting, asked_of, keeping};
 ghost use Rattle.byte_slots.specs.Marks.{mark_of};
 ghost use Rattle.byte_slots.specs.Probing.{sight_at, path_from, probing};
-ghost use Rattle.byte_slots.specs.Planning.{insert_plan_by, inserting, removing, planning_kept, planning_insert, planning_map_insert, remove_plan_by, planning_remove, planning_map_remove};
+ghost use Rattle.byte_slots.specs.Planning.{insert_plan_by, inserting, removing, planning_kept, remove_plan_by};
 ghost use Rattle.byte_slots.specs.Scanning.{live_marks};
-ghost use Rattle.byte_slots.specs.Seeking.{probing_map};
 ghost use Rattle.byte_slots.specs.Surveying.{higher_end, surveying};
 
 use answers::{Refusal, Span};
 use digest::{KEY_LIMIT, slot_of_key, slots_fit};
-use kinds::{
-    Ahead, Mark, Probed, Sight, ahead_by, count_mark, ended_at, first_free, next_slot, way,
-};
+use kinds::{Mark, Probed, Sight, count_mark, ended_at, first_free, next_slot};
 use std::marker::Model;
 use tables::Table;
 

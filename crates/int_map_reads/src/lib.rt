@@ -11,6 +11,7 @@ use int_slots::IntMap;
 use kinds::Probed;
 
 // The number of slots.
+#[tactic(auto, using(tables::proofs::Calls::capacity_refused, tables::proofs::Calls::lent_is))]
 pub fn capacity(marks: &[u8], keys: &[u64], values: &[u64]) -> Result<usize, Refusal>
     ensures { counted_numbers result ≡ capacity_of maps (before marks.now keys.now values.now) }
 {
@@ -18,6 +19,7 @@ pub fn capacity(marks: &[u8], keys: &[u64], values: &[u64]) -> Result<usize, Ref
 }
 
 // The number of keys.
+#[tactic(auto, using(tables::proofs::Calls::len_refused, tables::proofs::Calls::lent_is))]
 pub fn len(marks: &[u8], keys: &[u64], values: &[u64]) -> Result<usize, Refusal>
     ensures { counted_numbers result ≡ len_of maps (before marks.now keys.now values.now) }
 {

@@ -12,6 +12,7 @@ use int_slots::IntSet;
 use kinds::Probed;
 
 // The number of slots.
+#[tactic(auto, using(tables::proofs::Calls::capacity_refused, tables::proofs::Calls::lent_is))]
 pub fn capacity(marks: &[u8], keys: &[u64]) -> Result<usize, Refusal>
     ensures { counted_numbers result ≡ capacity_of sets (before marks.now keys.now) }
 {
@@ -19,6 +20,7 @@ pub fn capacity(marks: &[u8], keys: &[u64]) -> Result<usize, Refusal>
 }
 
 // The number of keys.
+#[tactic(auto, using(tables::proofs::Calls::len_refused, tables::proofs::Calls::lent_is))]
 pub fn len(marks: &[u8], keys: &[u64]) -> Result<usize, Refusal>
     ensures { counted_numbers result ≡ len_of sets (before marks.now keys.now) }
 {

@@ -1,15 +1,13 @@
 // Integer slots: sizes, the look at a slot, the probing loop, the scan, and the next live slot. Maps and sets share them.
 #![tactic(auto)]
 
-ghost use Rattle.std.specs.Prelude.{◌≡◌, true, ◌+◌, ◌<◌, ◌≤◌, ℕ, length, get_or};
+ghost use Rattle.std.specs.Prelude.{◌≡◌, true, ◌+◌, ◌<◌, ℕ, length, get_or};
 ghost use Rattle.int_slots.specs.Sets.{SetMemory, sets, before as set_before};
 ghost use Rattle.tables.specs.Handing.{key_parts, pair_parts};
 ghost use Rattle.tables.specs.Reading.{lent_of, probing as probing_in};
 ghost use Rattle.model.specs.Path.{find};
-ghost use Rattle.kinds.specs.Marks.{words_of};
 ghost use Rattle.kinds.specs.Probing.{first_free, look_of, along};
 ghost use Rattle.kinds.specs.declared.Probed.TheVariants.{Free};
-ghost use Rattle.kinds.specs.Stepping.{ahead_of};
 ghost use Rattle.int_slots.specs.Probing.{slots_in, probing, walked};
 ghost use Rattle.int_slots.specs.Scanning.{scanning};
 ghost use Rattle.int_slots.specs.Memory.{integers, fitting};
@@ -19,7 +17,7 @@ ghost use Rattle.kinds.specs.Calls.{sized_of};
 
 use answers::Refusal;
 use digest::{slot_of_word, slots_fit};
-use kinds::{Ahead, Mark, Probed, Sight, ahead_by, ended_at, first_free, next_slot, way};
+use kinds::{Mark, Probed, Sight, ended_at, first_free, next_slot};
 use std::marker::Model;
 use tables::Table;
 
